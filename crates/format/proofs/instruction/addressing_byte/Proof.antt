@@ -1,0 +1,45 @@
+use Prim.Native.Nat.{ℕ, _+_, _*_, _%_, _^_, _<_}
+use mathlib.Core.Path.{_≡_, refl, ap, _∙_}
+use native.Mathlib.Omega.{arith}
+use lib.Bits.{bitOr}
+use borrow.Author.Needs.{needs}
+use Rattle.format.specs.Types.{AddressMode, MiddleMode}
+use Rattle.format.specs.declared.instruction.AddressMode.the-variants as A
+use Rattle.format.specs.declared.instruction.MiddleMode.the-variants as M
+use Rattle.format.specs.Records.{modeNumber, middleNumber, addressingByte}
+use Rattle.bits.proofs.Shifts.{shl-or-in}
+use Rattle.format.proofs.instruction.addressing_byte.Statement.{statement}
+use Rattle.format.proofs.instruction.addressing_byte.Tie as tie
+
+mode-bits : (m : AddressMode) → modeNumber m < 8
+mode-bits A.OffsetIndirectMp = omega arith
+mode-bits A.OffsetIndirectFp = omega arith
+mode-bits A.Immediate = omega arith
+mode-bits A.None = omega arith
+mode-bits A.OffsetDoubleIndirectMp = omega arith
+mode-bits A.OffsetDoubleIndirectFp = omega arith
+
+middle-bits : (m : MiddleMode) → middleNumber m < 4
+middle-bits M.None = omega arith
+middle-bits M.SmallImmediate = omega arith
+middle-bits M.SmallOffsetFp = omega arith
+middle-bits M.SmallOffsetMp = omega arith
+
+-- three numbers side by side
+side-by-side : (m s d : ℕ) → m < 4 → s < 8 → d < 8 → bitOr (bitOr (m * 64 % 256) (s * 8 % 256)) d ≡ m * 64 + s * 8 + d
+side-by-side m s d hm hs hd =
+    let small : s * 8 % 256 ≡ s * 8 = omega arith in
+    let upper : bitOr (m * 64 % 256) (s * 8 % 256) ≡ m * 64 + s * 8 = rw small (shl-or-in 8 6 m (s * 8) (omega arith) (omega arith)) in
+    let shifted : m * 64 + s * 8 ≡ (m * 8 + s) * 8 % 256 = omega arith in
+    let joined : bitOr ((m * 8 + s) * 8 % 256) d ≡ (m * 8 + s) * 8 + d = shl-or-in 8 3 (m * 8 + s) d (omega arith) hd in
+    ap (λ (u : ℕ). bitOr u d) (upper ∙ shifted) ∙ joined ∙ omega arith
+
+returns : tie.Need-returns
+unfolding addressingByte
+returns c =
+    let a = c .before .before .before .args in
+    rw (c .before .before .middle-number .ensures, c .before .mode-number .ensures, c .mode-number2 .ensures)
+    (side-by-side (middleNumber (a .middle)) (modeNumber (a .source)) (modeNumber (a .destination)) (middle-bits (a .middle)) (mode-bits (a .source)) (mode-bits (a .destination)))
+
+pub addressing-byte-spec : {M : Type 1} → statement M
+addressing-byte-spec = tie.close (tie.spec (λ c κs. search needs) (λ c κs. search needs) (λ c κs. search needs) returns)

@@ -1,0 +1,11 @@
+use Prim.Native.Nat.{_/_}
+use mathlib.Core.Path.{_≡_}
+use lib.Bits.{and-mask}
+use Rattle.format.proofs.instruction.addressing_of.Statement.{statement}
+use Rattle.format.proofs.instruction.addressing_of.Tie as tie
+
+returns : tie.Need-returns
+returns c = cc (and-mask (c .args .b) 3, and-mask (c .args .b / 8) 3)
+
+pub addressing-of-spec : {M : Type 1} → statement M
+addressing-of-spec = tie.close (tie.spec returns)

@@ -1,0 +1,15 @@
+pub mod Types
+pub mod Refusals
+pub mod Reading
+pub mod Operands
+pub mod Records
+pub mod Put
+pub mod Sections
+pub mod Words
+pub mod Checks
+pub mod Load
+pub mod WellFormed
+pub mod Content
+pub mod Writing
+pub mod Run
+pub mod Known

@@ -1,0 +1,14 @@
+pub mod Flatten
+pub mod Items
+pub mod Limit
+pub mod Many
+pub mod Moves
+pub mod Names
+pub mod Needed
+pub mod OperandBack
+pub mod OperandCases
+pub mod Parsed
+pub mod Passed
+pub mod Put
+pub mod Types
+pub mod Until

@@ -1,0 +1,95 @@
+-- The whole file by its sections: the first refusal of one refuses the file, and what each says, in order, is the records. Each law is one `rw`.
+-- Assumes nothing.
+use Prim.Native.Nat.{ℕ}
+use mathlib.Core.Path.{_≡_}
+use mathlib.Core.Bool.{true, false}
+use mathlib.Core.List.{List, []}
+use lib.IntN.{ℤ, pos, negsuc}
+use Rattle.laws.proofs.Types.{Cursor, Refusal, Span, Placed, PlacedHeader, Instruction, TypeDescriptor, DataItem, ExportEntry, ImportEntry, NegativeCount}
+use Rattle.format.specs.Reading.{got, refused, many}
+use Rattle.format.specs.Records.{Handled, has}
+use Rattle.format.specs.Sections.{Reading, placedIn, nameIn, countedBy, headerAt, instructionAt, typeAt, itemsAt, exportAt, importAt, handlerAt, closing, underFlag, parse}
+
+-- ---- counted records
+
+module _ {A : Type 0} (section : ℕ) (one : Reading A) (p : Placed) (c : Cursor) {n : ℕ} where
+  pub counted-negative : p .value ≡ negsuc n → countedBy section one p c ≡ refused (NegativeCount section (p .place) (negsuc n))
+  unfolding countedBy
+  counted-negative e = rw e
+
+  pub counted-many : p .value ≡ pos n → countedBy section one p c ≡ many one n c
+  unfolding countedBy
+  counted-many e = rw e
+
+-- ---- a section under a flag
+
+module _ (file : List ℕ) {A : Type 0} (flag : ℕ) (flags : ℤ) (section : ℕ) (one : Reading A) (c : Cursor) where
+  pub flag-not : has flag flags ≡ false → underFlag file flag flags section one c ≡ got [] c
+  unfolding underFlag
+  flag-not e = rw e
+
+  module _ (on : has flag flags ≡ true) where
+    pub flag-count : {why : Refusal} → placedIn file section c ≡ refused why → underFlag file flag flags section one c ≡ refused why
+    unfolding underFlag
+    flag-count e = rw (on, e)
+
+    module _ {p : Placed} {d : Cursor} (ep : placedIn file section c ≡ got p d) where
+      pub flag-records : {why : Refusal} → countedBy section one p d ≡ refused why → underFlag file flag flags section one c ≡ refused why
+      unfolding underFlag
+      flag-records e = rw (on, ep, e)
+
+      module _ {xs : List A} {f : Cursor} (ex : countedBy section one p d ≡ got xs f) where
+        pub flag-closing : {why : Refusal} → closing file section f ≡ refused why → underFlag file flag flags section one c ≡ refused why
+        unfolding underFlag
+        flag-closing e = rw (on, ep, ex, e)
+
+        pub flag-whole : {g : Cursor} → closing file section f ≡ got tt g → underFlag file flag flags section one c ≡ got xs g
+        unfolding underFlag
+        flag-whole e = rw (on, ep, ex, e)
+
+-- ---- the file
+
+module _ (file : List ℕ) (c : Cursor) where
+  pub parse-header : {why : Refusal} → headerAt file c ≡ refused why → parse file c ≡ refused why
+  unfolding parse
+  parse-header e = rw e
+
+  module _ {h : PlacedHeader} {d : Cursor} (eh : headerAt file c ≡ got h d) where
+    pub parse-code : {why : Refusal} → countedBy 2 (instructionAt file) (h .code) d ≡ refused why → parse file c ≡ refused why
+    unfolding parse
+    parse-code e = rw (eh, e)
+
+    module _ {code : List Instruction} {f : Cursor} (ec : countedBy 2 (instructionAt file) (h .code) d ≡ got code f) where
+      pub parse-types : {why : Refusal} → countedBy 3 (typeAt file) (h .types) f ≡ refused why → parse file c ≡ refused why
+      unfolding parse
+      parse-types e = rw (eh, ec, e)
+
+      module _ {types : List TypeDescriptor} {g : Cursor} (et : countedBy 3 (typeAt file) (h .types) f ≡ got types g) where
+        pub parse-items : {why : Refusal} → itemsAt file g ≡ refused why → parse file c ≡ refused why
+        unfolding parse
+        parse-items e = rw (eh, ec, et, e)
+
+        module _ {items : List DataItem} {i : Cursor} (ei : itemsAt file g ≡ got items i) where
+          pub parse-name : {why : Refusal} → nameIn file 5 i ≡ refused why → parse file c ≡ refused why
+          unfolding parse
+          parse-name e = rw (eh, ec, et, ei, e)
+
+          module _ {name : Span} {j : Cursor} (en : nameIn file 5 i ≡ got name j) where
+            pub parse-exports : {why : Refusal} → countedBy 6 (exportAt file) (h .exports) j ≡ refused why → parse file c ≡ refused why
+            unfolding parse
+            parse-exports e = rw (eh, ec, et, ei, en, e)
+
+            module _ {exports : List ExportEntry} {k : Cursor} (ex : countedBy 6 (exportAt file) (h .exports) j ≡ got exports k) where
+              pub parse-imports : {why : Refusal} → underFlag file 64 (h .header .flags) 7 (importAt file) k ≡ refused why → parse file c ≡ refused why
+              unfolding parse
+              parse-imports e = rw (eh, ec, et, ei, en, ex, e)
+
+              module _ {imports : List (List ImportEntry)} {l : Cursor} (em : underFlag file 64 (h .header .flags) 7 (importAt file) k ≡ got imports l) where
+                pub parse-handlers : {why : Refusal} → underFlag file 32 (h .header .flags) 8 (handlerAt file) l ≡ refused why → parse file c ≡ refused why
+                unfolding parse
+                parse-handlers e = rw (eh, ec, et, ei, en, ex, em, e)
+
+                pub parse-whole : {handlers : List Handled} {m : Cursor} → underFlag file 32 (h .header .flags) 8 (handlerAt file) l ≡ got handlers m
+                    → parse file c ≡ got (record { header = h .header; code = code; types = types; items = items; name = name; exports = exports; imports = imports; handlers = handlers }) m
+                unfolding parse
+                parse-whole e = rw (eh, ec, et, ei, en, ex, em, e)

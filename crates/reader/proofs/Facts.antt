@@ -1,0 +1,29 @@
+-- What the proofs of the readers share.
+-- Assumes nothing.
+use Prim.Native.Nat.{ℕ, _%_, _^_, _<_}
+use mathlib.Core.Path.{_≡_, refl, sym, _∙_}
+use native.Mathlib.Omega.{arith}
+use borrow.Author.Tests.{lt-ltb}
+use lib.Bits.{bitAnd, and-mask}
+use lib.IntN.{ℤ, pos, _-ℤ_}
+use lib.Signed.{mag}
+use mir.Syntax.{w32}
+use mir.Val.{toZ, ofZ}
+use mir.Facts.{toZ-pos, toZ-ofZ}
+use Rattle.format.specs.declared.types.Cursor.{Cursor}
+use Rattle.format.specs.Reading.{Read, found, short}
+
+-- an answer whose value and next place are those of the reading
+pub found-as : {A : Type 0} {o : Read A} {v w : A} {m n : Cursor} → o ≡ found w n → v ≡ w → m ≡ n → found v m ≡ o
+found-as e p q = rw (p, q) (sym e)
+
+-- the six bits beside the form
+pub low-six : (n : ℕ) → bitAnd n 63 ≡ n % 64
+low-six n = and-mask n 6
+
+-- the byte less 128, as 32 bits hold it
+pub less-128 : (b : ℕ) → b < 128 → toZ w32 b -ℤ pos 128 ≡ pos b -ℤ pos 128
+less-128 b h = rw (toZ-pos w32 {n = b} (omega arith))
+
+pub less-128-fits : (b : ℕ) → b < 128 → mag (pos b -ℤ pos 128) < 2 ^ 31
+less-128-fits b h = rw (lt-ltb b 128 h) (omega arith)

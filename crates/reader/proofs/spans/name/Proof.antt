@@ -1,0 +1,64 @@
+use Prim.Native.Nat.{_<_, _^_}
+use mathlib.Core.Path.{_≡_, sym, ap, _∙_}
+use lib.IntN.{ℤ, pos}
+use lib.Signed.{mag}
+use mir.Syntax.{w32}
+use mir.Val.{toZ, ofZ}
+use Rattle.bits.specs.declared.Natural.{Natural}
+use Rattle.bits.specs.Bits.{naturalOf}
+use Rattle.bits.proofs.Signs.{natural-is, natural-not, kept}
+use Rattle.laws.proofs.Names.{shown-before, shown-negative, shown-part}
+use borrow.Author.Needs.{needs}
+use Rattle.reader.proofs.spans.name.Statement.{statement}
+use Rattle.reader.proofs.spans.name.Tie as tie
+
+-- a number is passed as its bits
+passed : (x : ℤ) {r s : Natural} → mag x < 2 ^ 31 → r ≡ naturalOf (toZ w32 (ofZ w32 x)) → r ≡ s → s ≡ naturalOf x
+passed x h e g = sym g ∙ e ∙ ap naturalOf (kept x h)
+
+returns : tie.Need-returns
+returns c =
+    let m = c .before .before .before in
+    let t = m .before in
+    let a = t .before .before .args in
+    sym (shown-before _ _ (natural-not _ (passed (a .span .start) (t .struct-told .given .0 .1) (m .as-natural .ensures) (c .before .enum-told .given .1))))
+
+-- the start is a place
+module _ (c : tie.After-from) where
+  start-is : c .before .before .before .before .before .args .span .start ≡ pos (c .from .given .0 .0)
+  start-is =
+      let m = c .before .before in
+      natural-is _ (passed (m .before .before .before .args .span .start) (m .before .struct-told .given .0 .1) (m .as-natural .ensures) (c .from .given .1))
+
+returns-2 : tie.Need-returns-2
+returns-2 c =
+    let m = c .before .before .before in
+    let t = m .before in
+    let f = t .before .before in
+    sym (shown-negative _ _ (start-is f) (natural-not _ (passed (f .before .before .before .before .before .args .span .len) (t .struct-told2 .given .1 .0 .1) (m .as-natural2 .ensures) (c .before .enum-told2 .given .1))))
+
+returns-3 : tie.Need-returns-3
+returns-3 c =
+    let k = c .before .before in
+    let m = k .before .before in
+    let t = m .before in
+    let f = t .before .before in
+    c .part .ensures
+    ∙ sym (shown-part _ _ (start-is f) (natural-is _ (passed (f .before .before .before .before .before .args .span .len) (t .struct-told2 .given .1 .0 .1) (m .as-natural2 .ensures) (k .count .given .1))))
+
+pub name-spec : {M : Type 1} → statement M
+name-spec =
+    tie.close
+    (tie.spec
+    (λ c κs. search needs)
+    (λ c. search needs)
+    (λ c. search needs)
+    (λ c. search needs)
+    returns
+    (λ c κs. search needs)
+    (λ c. search needs)
+    (λ c. search needs)
+    (λ c. search needs)
+    returns-2
+    (λ c κs. search needs)
+    returns-3)

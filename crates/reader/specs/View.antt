@@ -1,0 +1,32 @@
+-- The readers' answers, as readings; and a part of a file.
+use Prim.Native.Nat.{ℕ, _+_}
+use mathlib.Core.Bool.{cond}
+use mathlib.Core.List.{List, []}
+use lib.Dec.{leb}
+use lib.IntN.{ℤ}
+use lib.ListN.{length, take, drop}
+use Rattle.format.specs.declared.types.Span.{Span}
+use Rattle.format.specs.Reading.{Read, found, short}
+use Rattle.format.specs.Operands.{spanOf}
+use Rattle.reader.specs.declared.ByteRead.{ByteRead}
+use Rattle.reader.specs.declared.ByteRead.the-variants as B
+use Rattle.reader.specs.declared.NumberRead.{NumberRead}
+use Rattle.reader.specs.declared.NumberRead.the-variants as N
+use Rattle.reader.specs.declared.SpanRead.{SpanRead}
+use Rattle.reader.specs.declared.SpanRead.the-variants as S
+
+abbrev pub byteRead : ByteRead → Read ℕ
+byteRead (B.Got v next) = found v next
+byteRead B.Short = short
+
+abbrev pub numberRead : NumberRead → Read ℤ
+numberRead (N.Got v next) = found v next
+numberRead N.Short = short
+
+abbrev pub spanRead : SpanRead → Read Span
+spanRead (S.Got start len next) = found (spanOf start len) next
+spanRead S.Short = short
+
+-- count bytes from a place on, and none where they leave the file
+abbrev pub partOf : List ℕ → ℕ → ℕ → List ℕ
+partOf file from count = cond (leb (from + count) (length file)) (take count (drop from file)) []
