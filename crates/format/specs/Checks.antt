@@ -7,7 +7,7 @@ use lib.Dec.{ltb, eqb}
 use lib.IntN.{ℤ, pos, negsuc}
 use lib.ListN.{length}
 use lib.Signed.{ltZ}
-use Rattle.format.specs.Types.{Header, ExportEntry, ExceptionCase, Refusal, EntryPc, EntryType, BothFlags, ExportPc, ExportFrame, HandlerBegin, HandlerEnd, HandlerRange, HandlerType, CasePc}
+use Rattle.format.specs.Types.{Header, ExportEntry, Handler, ExceptionCase, Refusal, EntryPc, EntryType, BothFlags, ExportPc, ExportFrame, HandlerBegin, HandlerEnd, HandlerRange, HandlerType, CasePc}
 use Rattle.bits.specs.Bits.{sameZ}
 use Rattle.format.specs.Records.{Handled, Records, has}
 
@@ -33,31 +33,36 @@ below n (negsuc k) = false
 abbrev pub minusOne : ℤ → Bool
 minusOne v = sameZ v (negsuc 0)
 
+-- the cases of handler k from case j on
+unfoldable pub caseFault : ℕ → ℕ → ℕ → List ExceptionCase → Option Refusal
+caseFault codeSize k j [] = none
+caseFault codeSize k j (c ∷ []) = unless (minusOne (c .pc) || below codeSize (c .pc)) (CasePc k j)
+caseFault codeSize k j (c ∷ d ∷ cs) = unless (below codeSize (c .pc)) (CasePc k j) then caseFault codeSize k (suc j) (d ∷ cs)
+
 module _ (codeSize typeSize : ℕ) where
-  abbrev pub headerFault : Header → Option Refusal
+  unfoldable pub headerFault : Header → Option Refusal
   headerFault h =
       unless (minusOne (h .«entry_pc») || below codeSize (h .«entry_pc»)) (EntryPc (h .«entry_pc»))
       then unless (eqb typeSize 0 || minusOne (h .«entry_type») || below typeSize (h .«entry_type»)) (EntryType (h .«entry_type»))
       then unless (not (has 1 (h .flags) && has 2 (h .flags))) (BothFlags (h .flags))
 
-  abbrev pub exportFault : ℕ → ExportEntry → Option Refusal
+  unfoldable pub exportFault : ℕ → ExportEntry → Option Refusal
   exportFault k e =
       unless (ltZ (e .pc) (pos codeSize)) (ExportPc k (e .pc))
       then unless (eqb typeSize 0 || ltZ (e .frame) (pos typeSize)) (ExportFrame k (e .frame))
 
-  -- the cases of handler k from case j on
-  abbrev pub caseFault : ℕ → ℕ → List ExceptionCase → Option Refusal
-  caseFault k j [] = none
-  caseFault k j (c ∷ []) = unless (minusOne (c .pc) || below codeSize (c .pc)) (CasePc k j)
-  caseFault k j (c ∷ d ∷ cs) = unless (below codeSize (c .pc)) (CasePc k j) then caseFault k (suc j) (d ∷ cs)
-
-  abbrev pub handlerFault : ℕ → Handled → Option Refusal
-  handlerFault k (h, cases) =
-      unless (below codeSize (h .begin)) (HandlerBegin k (h .begin))
-      then unless (below (suc codeSize) (h .end)) (HandlerEnd k (h .end))
+  -- a handler's own record
+  unfoldable pub rangeFault : ℕ → Handler → Option Refusal
+  rangeFault k h =
+      unless (below (suc codeSize) (h .end)) (HandlerEnd k (h .end))
       then unless (ltZ (h .begin) (h .end)) (HandlerRange k (h .end))
       then unless (minusOne (h .descriptor) || below typeSize (h .descriptor)) (HandlerType k (h .descriptor))
-      then caseFault k 0 cases
+
+  unfoldable pub ownFault : ℕ → Handler → Option Refusal
+  ownFault k h = unless (below codeSize (h .begin)) (HandlerBegin k (h .begin)) then rangeFault k h
+
+  unfoldable pub handlerFault : ℕ → Handled → Option Refusal
+  handlerFault k (h, cases) = ownFault k h then caseFault codeSize k 0 cases
 
 unfoldable pub faultIn : Records → Option Refusal
 faultIn r =

@@ -112,3 +112,26 @@ pub data End (P : Type 0) : Type 0 where
 unfoldable pub endOf : {P A : Type 0} → Step P A → End P
 endOf (got x next) = ends next
 endOf (refused r) = stops r
+
+-- where it stops: past the last record, or at the one that is refused
+abbrev pub thenPlace : {P A : Type 0} → P → Step P A → (P → P) → P
+thenPlace p (got x next) k = k next
+thenPlace p (refused r) k = p
+
+unfoldable pub reached : {P A : Type 0} → Reads P A → ℕ → P → P
+reached read zero p = p
+reached read (suc n) p = thenPlace p (read p) (reached read n)
+
+-- what the records weigh together
+abbrev pub total : {A : Type 0} → (A → ℕ) → List A → ℕ
+total weigh [] = 0
+total weigh (x ∷ xs) = weigh x + total weigh xs
+
+unfoldable pub tally : {P A : Type 0} → (A → ℕ) → Step P (List A) → Step P ℕ
+tally weigh (got xs next) = got (total weigh xs) next
+tally weigh (refused r) = refused r
+
+-- nothing was refused
+abbrev pub Whole : {P A : Type 0} → Step P A → Type 0
+Whole (got x next) = Unit {0}
+Whole (refused r) = ⊥

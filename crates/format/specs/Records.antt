@@ -7,13 +7,14 @@ use lib.Count.{ones}
 use lib.Dec.{eqb}
 use lib.IntN.{ℤ, pos}
 use lib.ListN.{length, getElem?}
-use Rattle.format.specs.Types.{Span, TypeDescriptor, AddressMode, MiddleMode, MaybeAddressMode, MaybeMiddleMode, Addressing, Instruction, Flag, DataKind, MaybeDataKind, Header, DataItem, ExportEntry, ImportEntry, Handler, ExceptionCase, Module}
+use Rattle.format.specs.Types.{Span, TypeDescriptor, AddressMode, MiddleMode, MaybeAddressMode, MaybeMiddleMode, Addressing, Instruction, Flag, DataKind, MaybeDataKind, Shape, Header, DataItem, ExportEntry, ImportEntry, Handler, ExceptionCase, Module}
 use Rattle.format.specs.declared.instruction.AddressMode.the-variants as A
 use Rattle.format.specs.declared.instruction.MiddleMode.the-variants as M
 use Rattle.format.specs.declared.instruction.MaybeAddressMode.the-variants as MA
 use Rattle.format.specs.declared.instruction.MaybeMiddleMode.the-variants as MM
 use Rattle.format.specs.declared.module.MaybeDataKind.the-variants as MK
 use Rattle.format.specs.declared.module.DataKind.the-variants.{Bytes, Words, String, Reals, Array, SetArray, Restore, Bigs}
+use Rattle.format.specs.declared.module.Shape.the-variants as S
 use Rattle.format.specs.declared.module.Flag.the-variants.{MustCompile, DontCompile, HasHandler, HasImport}
 use Rattle.bits.specs.Bits.{bitsOf}
 
@@ -128,22 +129,28 @@ kindNumber SetArray = 6
 kindNumber Restore = 7
 kindNumber Bigs = 8
 
--- what the value of a kind is: counted bytes, counted elements of k words, one thing of k words, or nothing
-pub data Shape : Type 0 where
-  bytes : Shape
-  words : ℕ → Shape
-  single : ℕ → Shape
-  nothing : Shape
+abbrev pub shapeOf : DataKind → Shape
+shapeOf Bytes = S.Bytes
+shapeOf Words = S.Words 1
+shapeOf String = S.Bytes
+shapeOf Reals = S.Words 2
+shapeOf Array = S.Single 2
+shapeOf SetArray = S.Single 1
+shapeOf Restore = S.Nothing
+shapeOf Bigs = S.Words 2
 
-unfoldable pub shapeOf : DataKind → Shape
-shapeOf Bytes = bytes
-shapeOf Words = words 1
-shapeOf String = bytes
-shapeOf Reals = words 2
-shapeOf Array = single 2
-shapeOf SetArray = single 1
-shapeOf Restore = nothing
-shapeOf Bigs = words 2
+-- how many elements are kept of n, and how many bytes their value has
+abbrev pub elementsOf : Shape → ℕ → ℕ
+elementsOf S.Bytes n = n
+elementsOf (S.Words k) n = n
+elementsOf (S.Single k) n = 1
+elementsOf S.Nothing n = 1
+
+abbrev pub lengthOf : Shape → ℕ → ℕ
+lengthOf S.Bytes n = n
+lengthOf (S.Words k) n = k * n * 4
+lengthOf (S.Single k) n = k * 4
+lengthOf S.Nothing n = 0
 
 -- ---- the code's answers, as options
 

@@ -7,11 +7,12 @@ use lib.Dec.{leb, eqb}
 use lib.IntN.{ℤ, pos}
 use lib.Signed.{mag}
 use lib.ListN.{length}
-use Rattle.format.specs.Types.{Cursor, Span, Placed, FourPlaced, TypeDescriptor, AddressMode, MiddleMode, Operand, MiddleOperand, Instruction, DataKind, PlacedHeader, DataItem, ExportEntry, ImportEntry, Handler, ExceptionCase, BadMagic, NegativeCount, NegativeOffset, BadOpcode, BadMode, BadKind, NotClosed}
+use Rattle.format.specs.Types.{Cursor, Span, Placed, FourPlaced, TypeDescriptor, AddressMode, MiddleMode, Operand, MiddleOperand, Instruction, DataKind, Shape, PlacedHeader, DataItem, ExportEntry, ImportEntry, Handler, ExceptionCase, BadMagic, NegativeCount, NegativeOffset, BadOpcode, BadMode, BadKind, NotClosed}
+use Rattle.format.specs.declared.module.Shape.the-variants as S
 use Rattle.format.specs.Reading.{Reads, _>>=_, _>>_, give, refuse, here, check, natural, given, piece, many, untilNone}
 use Rattle.format.specs.Operands.{byteAt, operandAt, wordAt, spanAt, nameAt, shown, spanOf}
 use Rattle.bits.specs.Bits.{bitsOf, sameZ}
-use Rattle.format.specs.Records.{Handled, Records, has, modeOf, byMode, middleOf, byMiddle, addressingOf, onesOf, kindOf, Shape, bytes, words, single, nothing, shapeOf}
+use Rattle.format.specs.Records.{Handled, Records, has, modeOf, byMode, middleOf, byMiddle, addressingOf, onesOf, kindOf, shapeOf}
 
 abbrev pub plainMagic : ℤ
 plainMagic = pos 0x0C8030
@@ -25,10 +26,10 @@ nowhere = record { start = pos 0; len = pos 0 }
 
 -- n elements whose value starts at a place
 abbrev pub itemOf : Shape → DataKind → ℤ → ℕ → ℕ → DataItem
-itemOf nothing kind offset n start = record { kind = kind; offset = pos 0; count = pos 1; value = nowhere }
-itemOf bytes kind offset n start = record { kind = kind; offset = offset; count = pos n; value = spanOf start n }
-itemOf (words k) kind offset n start = record { kind = kind; offset = offset; count = pos n; value = spanOf start (k * n * 4) }
-itemOf (single k) kind offset n start = record { kind = kind; offset = offset; count = pos 1; value = spanOf start (k * 4) }
+itemOf S.Nothing kind offset n start = record { kind = kind; offset = pos 0; count = pos 1; value = nowhere }
+itemOf S.Bytes kind offset n start = record { kind = kind; offset = offset; count = pos n; value = spanOf start n }
+itemOf (S.Words k) kind offset n start = record { kind = kind; offset = offset; count = pos n; value = spanOf start (k * n * 4) }
+itemOf (S.Single k) kind offset n start = record { kind = kind; offset = offset; count = pos 1; value = spanOf start (k * 4) }
 
 abbrev pub Reading : Type 0 → Type 0
 Reading A = Reads Cursor A
@@ -37,11 +38,32 @@ Reading A = Reads Cursor A
 abbrev pub counted : ℕ → Placed → Reading ℕ
 counted section p = natural (NegativeCount section (p .place) (p .value)) (p .value)
 
--- as many records as an operand says
+-- as many records as the header says
 unfoldable pub countedBy : {A : Type 0} → ℕ → Reading A → Placed → Reading (List A)
 countedBy section one p = do
   n ← counted section p
   many one n
+
+-- flags, stack extent, code size, data size; type size, export size, entry pc, entry type. The three sizes keep their places: a negative one
+-- is refused when its section begins
+abbrev pub headerOf : ℤ → Span → FourPlaced → FourPlaced → PlacedHeader
+headerOf magic signature a b = record {
+  header = record {
+    magic = magic;
+    signature = signature;
+    flags = a .first .value;
+    «stack_extent» = a .second .value;
+    «code_size» = a .third .value;
+    «data_size» = a .fourth .value;
+    «type_size» = b .first .value;
+    «export_size» = b .second .value;
+    «entry_pc» = b .third .value;
+    «entry_type» = b .fourth .value;
+  };
+  code = a .third;
+  types = b .first;
+  exports = b .second;
+}
 
 module _ (file : List ℕ) where
   abbrev pub byteIn : ℕ → Reading ℕ
@@ -77,37 +99,24 @@ module _ (file : List ℕ) where
   unfoldable pub countIn : ℕ → Reading ℕ
   countIn section = placedIn section >>= counted section
 
+  -- a length, and that many bytes
+  unfoldable pub sizedIn : ℕ → Reading Span
+  sizedIn section = countIn section >>= spanIn section
+
   -- ---- 1, the header
 
   unfoldable pub signatureFor : ℤ → Reading Span
   signatureFor magic =
       cond (sameZ magic plainMagic) (give nowhere)
-      (cond (sameZ magic signedMagic) (countIn 1 >>= spanIn 1) (refuse (BadMagic magic)))
+      (cond (sameZ magic signedMagic) (sizedIn 1) (refuse (BadMagic magic)))
 
-  -- the three sizes keep their places: a negative one is refused when its section begins
   unfoldable pub headerAt : Reading PlacedHeader
   headerAt = do
     magic ← operandIn 1
     signature ← signatureFor magic
-    record { first = flags; second = extent; third = code; fourth = size } ← fourIn 1
-    record { first = types; second = exports; third = pc; fourth = frame } ← fourIn 1
-    give (record {
-      header = record {
-        magic = magic;
-        signature = signature;
-        flags = flags .value;
-        «stack_extent» = extent .value;
-        «code_size» = code .value;
-        «data_size» = size .value;
-        «type_size» = types .value;
-        «export_size» = exports .value;
-        «entry_pc» = pc .value;
-        «entry_type» = frame .value;
-      };
-      code = code;
-      types = types;
-      exports = exports;
-    })
+    a ← fourIn 1
+    b ← fourIn 1
+    give (headerOf magic signature a b)
 
   -- ---- 2, code. The addressing byte stands at `place`
 
@@ -137,6 +146,14 @@ module _ (file : List ℕ) where
     mode ← given (BadMode place n) (middleOf n)
     byMiddle mode (give (record { mode = mode; register1 = pos 0 })) (middleRegister mode)
 
+  -- middle, source, destination: a mode 6 or 7 is refused when its turn comes
+  unfoldable pub operandsAt : ℕ → ℕ → ℕ → Reading Instruction
+  operandsAt opcode place b = do
+    middle ← middleAt place (addressingOf b .middle)
+    source ← addressedAt place (addressingOf b .source)
+    destination ← addressedAt place (addressingOf b .destination)
+    give (record { opcode = opcode; source = source; middle = middle; destination = destination })
+
   unfoldable pub instructionAt : Reading Instruction
   instructionAt = do
     start ← here
@@ -144,10 +161,7 @@ module _ (file : List ℕ) where
     check (leb opcode 175) (BadOpcode (start .at) opcode)
     addressing ← here
     b ← byteIn 2
-    middle ← middleAt (addressing .at) (addressingOf b .middle)
-    source ← addressedAt (addressing .at) (addressingOf b .source)
-    destination ← addressedAt (addressing .at) (addressingOf b .destination)
-    give (record { opcode = opcode; source = source; middle = middle; destination = destination })
+    operandsAt opcode (addressing .at) b
 
   -- ---- 3, types
 
@@ -155,17 +169,17 @@ module _ (file : List ℕ) where
   typeAt = do
     id ← operandIn 3
     size ← operandIn 3
-    map ← countIn 3 >>= spanIn 3
+    map ← sizedIn 3
     give (record { id = id; size = size; map = map; pointers = pos (onesOf (shown file map)) })
 
   -- ---- 4, data
 
   -- bytes are one piece, each word is
   abbrev pub passOver : Shape → ℕ → Reading (Unit {0})
-  passOver bytes n = spanIn 4 n >> give tt
-  passOver (words k) n = many (wordIn 4) (k * n) >> give tt
-  passOver (single k) n = many (wordIn 4) k >> give tt
-  passOver nothing n = give tt
+  passOver S.Bytes n = spanIn 4 n >> give tt
+  passOver (S.Words k) n = many (wordIn 4) (k * n) >> give tt
+  passOver (S.Single k) n = many (wordIn 4) k >> give tt
+  passOver S.Nothing n = give tt
 
   unfoldable pub valueAt : DataKind → ℤ → ℕ → Reading DataItem
   valueAt kind offset n = do
@@ -222,7 +236,7 @@ module _ (file : List ℕ) where
     give (record { signature = signature; name = name })
 
   unfoldable pub importAt : Reading (List ImportEntry)
-  importAt = placedIn 7 >>= countedBy 7 functionAt
+  importAt = countIn 7 >>= many functionAt
 
   -- ---- 8, handlers
 
@@ -232,12 +246,18 @@ module _ (file : List ℕ) where
     pc ← operandIn 8
     give (record { name = name; pc = pc })
 
+  -- pc only
+  unfoldable pub lastAt : Reading ExceptionCase
+  lastAt = do
+    pc ← operandIn 8
+    give (record { name = nowhere; pc = pc })
+
   -- n cases, and the last
   unfoldable pub casesAt : ℕ → Reading (List ExceptionCase)
   casesAt n = do
     cases ← many caseAt n
-    pc ← operandIn 8
-    give (cases ++ record { name = nowhere; pc = pc } ∷ [])
+    last ← lastAt
+    give (cases ++ last ∷ [])
 
   -- the packed count's low 16 bits are the cases before the last; the upper half is dropped
   unfoldable pub headAt : Reading Handler
@@ -268,7 +288,7 @@ module _ (file : List ℕ) where
 
   unfoldable pub underFlag : {A : Type 0} → ℕ → ℤ → ℕ → Reading A → Reading (List A)
   underFlag flag flags section one = cond (has flag flags) (do
-    records ← placedIn section >>= countedBy section one
+    records ← countIn section >>= many one
     closing section
     give records)
       (give [])

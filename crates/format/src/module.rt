@@ -4,7 +4,7 @@ use crate::types::Placed;
 use crate::types::Span;
 use bits::bits_of;
 ghost use mathlib.Core.Path.{_≡_};
-ghost use Rattle.format.specs.Records.{has, flagValue, kindOf, kindNumber, maybeKind};
+ghost use Rattle.format.specs.Records.{has, flagValue, kindOf, kindNumber, maybeKind, shapeOf};
 
 pub const XMAGIC: i32 = 0x0C8030;
 
@@ -103,6 +103,29 @@ pub fn kind_number(kind: DataKind) -> u8
         DataKind::SetArray => 6,
         DataKind::Restore => 7,
         DataKind::Bigs => 8,
+    }
+}
+
+// What the value of a kind is: counted bytes, counted elements of so many words, one thing of so many words, or nothing.
+pub enum Shape {
+    Bytes,
+    Words(usize),
+    Single(usize),
+    Nothing,
+}
+
+pub fn shape_of(kind: DataKind) -> Shape
+    ensures { λ r. ⌜ r ≡ shapeOf kind ⌝ }
+{
+    match kind {
+        DataKind::Bytes => Shape::Bytes,
+        DataKind::Words => Shape::Words(1),
+        DataKind::String => Shape::Bytes,
+        DataKind::Reals => Shape::Words(2),
+        DataKind::Array => Shape::Single(2),
+        DataKind::SetArray => Shape::Single(1),
+        DataKind::Restore => Shape::Nothing,
+        DataKind::Bigs => Shape::Words(2),
     }
 }
 

@@ -7,7 +7,7 @@ use native.Mathlib.Nat.{zero-mul, suc-mul, mul-le-mul-right}
 use native.Mathlib.Omega.{arith}
 use lib.ListN.{length, length-append}
 use Rattle.laws.proofs.Types.{Refusal}
-use Rattle.format.specs.Reading.{got, refused, Reads, leading}
+use Rattle.format.specs.Reading.{got, refused, Reads, leading, total}
 use Rattle.format.specs.Words.{flatten}
 use Rattle.format.specs.Put.{put}
 use Rattle.laws.proofs.Many.{leading-done, leading-turn, leading-stop, length-leading}
@@ -17,6 +17,10 @@ module _ {A W : Type 0} (words : A → List W) where
   pub flatten-append : (xs ys : List A) → flatten words (xs ++ ys) ≡ flatten words xs ++ flatten words ys
   flatten-append [] ys = refl
   flatten-append (x ∷ xs) ys = rw (flatten-append xs ys, append-assoc)
+
+  pub total-flatten : (xs : List A) → length (flatten words xs) ≡ total (λ x. length (words x)) xs
+  total-flatten [] = refl
+  total-flatten (x ∷ xs) = rw (length-append, total-flatten xs)
 
   pub flatten-least : (m : ℕ) → ((x : A) → m ≤ length (words x)) → (xs : List A) → length xs * m ≤ length (flatten words xs)
   flatten-least m each [] = omega (arith, zero-mul m)

@@ -1,4 +1,6 @@
+pub mod Fills
 pub mod Flatten
+pub mod Groups
 pub mod Items
 pub mod Limit
 pub mod Many
@@ -9,6 +11,11 @@ pub mod OperandBack
 pub mod OperandCases
 pub mod Parsed
 pub mod Passed
+pub mod Pieces
 pub mod Put
+pub mod Scans
+pub mod Told
 pub mod Types
 pub mod Until
+pub mod Values
+pub mod Whole

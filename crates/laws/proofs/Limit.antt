@@ -13,10 +13,10 @@ use Rattle.laws.proofs.Types.{Cursor, Placed}
 use Rattle.format.specs.Reading.{got, Reads, _>>=_, give, many}
 use Rattle.format.specs.Records.{Records, has, sizeLimit, wordLimit}
 use Rattle.format.specs.Words.{flatten, instructionWidth, typeWidth, itemWidth, exportWidth, functionWidth, caseWidth, instructionWords, typeWords, itemWords, exportWords, functionWords, importWords, caseWords, handledWords, tableWords, wordsNeeded}
-use Rattle.format.specs.Sections.{placedIn, countedBy, importAt, casesAt, handlerAt, itemsAt, underFlag, parse}
+use Rattle.format.specs.Sections.{countIn, countedBy, importAt, casesAt, handlerAt, itemsAt, underFlag, parse}
 use Rattle.laws.proofs.Many.{parts-of, many-ind}
 use Rattle.laws.proofs.Flatten.{length-flatten, flatten-append}
-use Rattle.laws.proofs.Moves.{Moves, natural-moves, operandIn-moves, nameIn-moves, placedIn-moves, head-moves, header-moves, instruction-moves, type-moves, items-far, export-moves, function-moves, case-moves, closing-moves, parse-moves}
+use Rattle.laws.proofs.Moves.{Moves, natural-moves, last-moves, nameIn-moves, countIn-moves, head-moves, header-moves, instruction-moves, type-moves, items-far, export-moves, function-moves, case-moves, closing-moves, parse-moves}
 
 -- what is read costs no more than nine for each byte
 pub record Weighs {A : Type 0} (cost : A → ℕ) (m : Reads Cursor A) : Type 0 where
@@ -65,13 +65,13 @@ module _ (file : List ℕ) where
     counted-weighs section p = then-weighs (moves-weigh 0 (natural-moves file _ (p .value))) λ n. lighter (λ xs. omega arith) (many-weighs n)
 
     -- and the operand that counts them
-    placed-weighs : (section : ℕ) → Weighs (λ xs. costOf (flatten words) xs + 9) (placedIn file section >>= countedBy section one)
-    placed-weighs section = then-weighs (moves-weigh 1 (placedIn-moves file section)) λ p. lighter (λ xs. omega arith) (counted-weighs section p)
+    counting-weighs : (section : ℕ) → Weighs (λ xs. costOf (flatten words) xs + 9) (countIn file section >>= many one)
+    counting-weighs section = then-weighs (moves-weigh 1 (countIn-moves file section)) λ n. lighter (λ xs. omega arith) (many-weighs n)
 
     flag-weighs : (flag : ℕ) (flags : ℤ) (section : ℕ) → Weighs (costOf (flatten words)) (underFlag file flag flags section one)
     unfolding underFlag
     flag-weighs flag flags section = cond-weighs (has flag flags)
-        (then-weighs (placed-weighs section) λ records. then-weighs (moves-weigh 1 (closing-moves file section)) λ _. give-weighs records (omega arith))
+        (then-weighs (counting-weighs section) λ records. then-weighs (moves-weigh 1 (closing-moves file section)) λ _. give-weighs records (omega arith))
         (give-weighs [] (omega arith))
 
   -- ---- the sections
@@ -79,17 +79,17 @@ module _ (file : List ℕ) where
   items-weigh : Weighs (costOf (flatten itemWords)) (itemsAt file)
   items-weigh = record { pays = λ p q items e. let f = items-far file p q e in omega (arith, length-flatten itemWords itemWidth (λ _. refl) items) }
 
-  import-weighs : Weighs (costOf importWords) (importAt file)
+  pub import-weighs : Weighs (costOf importWords) (importAt file)
   unfolding importAt
-  import-weighs = lighter (λ fs. omega arith) (placed-weighs functionWords (flat-weighs functionWords functionWidth 5 (λ _. refl) (omega arith) (function-moves file)) 7)
+  import-weighs = lighter (λ fs. omega arith) (counting-weighs functionWords (flat-weighs functionWords functionWidth 5 (λ _. refl) (omega arith) (function-moves file)) 7)
 
   cases-weigh : (n : ℕ) → Weighs (costOf (flatten caseWords)) (casesAt file n)
   unfolding casesAt
   cases-weigh n =
       then-weighs (many-weighs caseWords (flat-weighs caseWords caseWidth 2 (λ _. refl) (omega arith) (case-moves file)) n) λ cases.
-      then-weighs (moves-weigh 1 (operandIn-moves file 8)) λ pc. give-weighs _ (simp (flatten-append, length-append) (omega arith))
+      then-weighs (moves-weigh 1 (last-moves file)) λ last. give-weighs _ (simp (flatten-append, length-append) (omega arith))
 
-  handler-weighs : Weighs (costOf handledWords) (handlerAt file)
+  pub handler-weighs : Weighs (costOf handledWords) (handlerAt file)
   unfolding handlerAt
   handler-weighs =
       then-weighs (moves-weigh 5 (head-moves file)) λ handler.

@@ -120,6 +120,12 @@ module _ {P A : Type 0} (read : Reads P A) (n : ℕ) (p : P) where
   pub scanned : {q : P} → endOf (many read n p) ≡ ends q → many read n p ≡ got (leading read n p) q
   scanned e = scan-by (many read n p) refl e
 
+-- and one that stopped was refused
+pub stopped : {P A : Type 0} (s : Step P A) {r : Refusal} → endOf s ≡ stops r → s ≡ refused r
+unfolding endOf
+stopped (got x q) e = cc
+stopped (refused r) e = ap refused (cc)
+
 -- ---- some records, and then others
 
 abbrev pub joinedTo : {P A : Type 0} → Reads P (List A) → List A → Reads P (List A)

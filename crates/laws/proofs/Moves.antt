@@ -12,14 +12,15 @@ use lib.Dec.{leb, eqb}
 use lib.IntN.{ℤ, pos, negsuc}
 use lib.Signed.{mag}
 use lib.ListN.{length, drop, length-drop}
-use Rattle.laws.proofs.Types.{Cursor, Span, Refusal, Placed, AddressMode, MiddleMode, DataItem, DataKind}
+use Rattle.laws.proofs.Types.{Cursor, Span, Refusal, Placed, AddressMode, MiddleMode, DataItem, DataKind, Shape}
+use Rattle.format.specs.declared.module.Shape.the-variants as S
 use Rattle.format.specs.declared.instruction.AddressMode.the-variants as A
 use Rattle.format.specs.declared.instruction.MiddleMode.the-variants as M
 use Rattle.format.specs.Reading.{Read, found, short, upTo, past, got, Reads, _>>=_, _>>_, give, refuse, here, check, natural, given, whole, piece, many, untilNone}
 use Rattle.format.specs.Operands.{byteAt, operandForm, operandAt, wordAt, spanAt, nameAt, byte, zeroIn, endedBy}
 use Rattle.bits.specs.Bits.{bitsOf, sameZ}
-use Rattle.format.specs.Records.{Shape, bytes, words, single, nothing, shapeOf, kindOf, modeOf, byMode, middleOf, byMiddle, has}
-use Rattle.format.specs.Sections.{plainMagic, signedMagic, byteIn, operandIn, wordIn, nameIn, spanIn, placedIn, fourIn, countIn, countedBy, signatureFor, headerAt, oneRegister, twoRegisters, addressedAt, middleRegister, middleAt, instructionAt, typeAt, passOver, valueAt, elementsAt, offsetAt, codedAt, itemAt, itemsAt, exportAt, functionAt, importAt, caseAt, casesAt, headAt, handlerAt, closing, underFlag, parse}
+use Rattle.format.specs.Records.{shapeOf, lengthOf, kindOf, modeOf, byMode, middleOf, byMiddle, addressingOf, has}
+use Rattle.format.specs.Sections.{plainMagic, signedMagic, byteIn, operandIn, wordIn, nameIn, spanIn, placedIn, fourIn, countIn, countedBy, sizedIn, signatureFor, headerAt, oneRegister, twoRegisters, addressedAt, middleRegister, middleAt, operandsAt, instructionAt, typeAt, passOver, valueAt, elementsAt, offsetAt, codedAt, itemAt, itemsAt, exportAt, functionAt, importAt, caseAt, lastAt, casesAt, headAt, handlerAt, closing, underFlag, parse}
 use Rattle.laws.proofs.Many.{parts-of, many-ind}
 use Rattle.laws.proofs.Until.{until-ind}
 
@@ -184,7 +185,8 @@ module _ (file : List ℕ) where
   countIn-moves section = then-moves (placedIn-moves section) λ p. natural-moves _ (p .value)
 
   -- bytes that an operand counts
-  pub sized-moves : (section : ℕ) → Moves 1 (countIn file section >>= spanIn file section)
+  pub sized-moves : (section : ℕ) → Moves 1 (sizedIn file section)
+  unfolding sizedIn
   sized-moves section = then-moves (countIn-moves section) λ n. loosely (spanIn-moves section n)
 
   pub countedBy-moves : {A : Type 0} {k : ℕ} {one : Reads Cursor A} (section : ℕ) → Moves k one → (p : Placed) → Moves 0 (countedBy section one p)
@@ -242,12 +244,17 @@ module _ (file : List ℕ) where
   middle-moves place n =
       then-moves (given-moves _ (middleOf n)) λ mode. byMiddle-moves mode (give-moves _) (loosely (middleRegister-moves mode))
 
+  pub operands-moves : (opcode place b : ℕ) → Moves 0 (operandsAt file opcode place b)
+  unfolding operandsAt
+  operands-moves opcode place b =
+      then-moves (middle-moves place (addressingOf b .middle)) λ m. then-moves (addressed-moves place (addressingOf b .source)) λ s.
+      then-moves (addressed-moves place (addressingOf b .destination)) λ d. give-moves _
+
   pub instruction-moves : Moves 2 (instructionAt file)
   unfolding instructionAt
   instruction-moves =
       then-moves here-moves λ start. then-moves (byteIn-moves 2) λ opcode. then-moves (check-moves (leb opcode 175) _) λ _.
-      then-moves here-moves λ addressing. then-moves (byteIn-moves 2) λ b. then-moves (middle-moves _ _) λ middle.
-      then-moves (addressed-moves _ _) λ source. then-moves (addressed-moves _ _) λ destination. give-moves _
+      then-moves here-moves λ addressing. then-moves (byteIn-moves 2) λ b. operands-moves opcode (addressing .at) b
 
   -- ---- 3, types
 
@@ -258,15 +265,15 @@ module _ (file : List ℕ) where
 
   -- ---- 4, data
 
-  pub pass-moves : (s : Shape) (n : ℕ) → Moves 0 (passOver file s n)
-  pass-moves bytes n = then-moves (loosely (spanIn-moves 4 n)) λ _. give-moves tt
-  pass-moves (words k) n = then-moves (loosely (many-moves (wordIn-moves 4) (k * n))) λ _. give-moves tt
-  pass-moves (single k) n = then-moves (loosely (many-moves (wordIn-moves 4) k)) λ _. give-moves tt
-  pass-moves nothing n = give-moves tt
+  pub pass-moves : (s : Shape) (n : ℕ) → Moves (lengthOf s n) (passOver file s n)
+  pass-moves S.Bytes n = weaker n (omega arith) (then-moves (spanIn-moves 4 n) λ _. give-moves tt)
+  pass-moves (S.Words k) n = weaker (k * n * 4) (omega arith) (then-moves (many-moves (wordIn-moves 4) (k * n)) λ _. give-moves tt)
+  pass-moves (S.Single k) n = weaker (k * 4) (omega arith) (then-moves (many-moves (wordIn-moves 4) k) λ _. give-moves tt)
+  pass-moves S.Nothing n = give-moves tt
 
   pub value-moves : (kind : DataKind) (offset : ℤ) (n : ℕ) → Moves 0 (valueAt file kind offset n)
   unfolding valueAt
-  value-moves kind offset n = then-moves here-moves λ start. then-moves (pass-moves (shapeOf kind) n) λ _. give-moves _
+  value-moves kind offset n = then-moves here-moves λ start. then-moves (loosely (pass-moves (shapeOf kind) n)) λ _. give-moves _
 
   pub elements-moves : (code : ℕ) → Moves 0 (elementsAt file code)
   unfolding elementsAt
@@ -325,7 +332,7 @@ module _ (file : List ℕ) where
 
   pub import-moves : Moves 1 (importAt file)
   unfolding importAt
-  import-moves = then-moves (placedIn-moves 7) λ p. countedBy-moves 7 function-moves p
+  import-moves = then-moves (countIn-moves 7) λ n. loosely (many-moves function-moves n)
 
   -- ---- 8, handlers
 
@@ -333,9 +340,13 @@ module _ (file : List ℕ) where
   unfolding caseAt
   case-moves = then-moves (nameIn-moves 8) λ name. then-moves (operandIn-moves 8) λ pc. give-moves _
 
+  pub last-moves : Moves 1 (lastAt file)
+  unfolding lastAt
+  last-moves = then-moves (operandIn-moves 8) λ pc. give-moves _
+
   pub cases-moves : (n : ℕ) → Moves (n * 2 + 1) (casesAt file n)
   unfolding casesAt
-  cases-moves n = then-moves (many-moves case-moves n) λ cases. then-moves (operandIn-moves 8) λ pc. give-moves _
+  cases-moves n = then-moves (many-moves case-moves n) λ cases. then-moves last-moves λ last. give-moves _
 
   pub head-moves : Moves 5 (headAt file)
   unfolding headAt
@@ -356,7 +367,7 @@ module _ (file : List ℕ) where
   pub underFlag-moves : {A : Type 0} {k : ℕ} {one : Reads Cursor A} (flag : ℕ) (flags : ℤ) (section : ℕ) → Moves k one → Moves 0 (underFlag file flag flags section one)
   unfolding underFlag
   underFlag-moves flag flags section h =
-      cond-moves (has flag flags) (loosely (then-moves (then-moves (placedIn-moves section) λ p. countedBy-moves section h p) λ records.
+      cond-moves (has flag flags) (loosely (then-moves (then-moves (countIn-moves section) λ n. loosely (many-moves h n)) λ records.
       then-moves (closing-moves section) λ _. give-moves records)) (give-moves [])
 
   -- ---- the whole file

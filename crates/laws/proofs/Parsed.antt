@@ -8,7 +8,7 @@ use lib.IntN.{ℤ, pos, negsuc}
 use Rattle.laws.proofs.Types.{Cursor, Refusal, Span, Placed, PlacedHeader, Instruction, TypeDescriptor, DataItem, ExportEntry, ImportEntry, NegativeCount}
 use Rattle.format.specs.Reading.{got, refused, many}
 use Rattle.format.specs.Records.{Handled, has}
-use Rattle.format.specs.Sections.{Reading, placedIn, nameIn, countedBy, headerAt, instructionAt, typeAt, itemsAt, exportAt, importAt, handlerAt, closing, underFlag, parse}
+use Rattle.format.specs.Sections.{Reading, countIn, nameIn, countedBy, headerAt, instructionAt, typeAt, itemsAt, exportAt, importAt, handlerAt, closing, underFlag, parse}
 
 -- ---- counted records
 
@@ -29,23 +29,23 @@ module _ (file : List ℕ) {A : Type 0} (flag : ℕ) (flags : ℤ) (section : �
   flag-not e = rw e
 
   module _ (on : has flag flags ≡ true) where
-    pub flag-count : {why : Refusal} → placedIn file section c ≡ refused why → underFlag file flag flags section one c ≡ refused why
+    pub flag-count : {why : Refusal} → countIn file section c ≡ refused why → underFlag file flag flags section one c ≡ refused why
     unfolding underFlag
     flag-count e = rw (on, e)
 
-    module _ {p : Placed} {d : Cursor} (ep : placedIn file section c ≡ got p d) where
-      pub flag-records : {why : Refusal} → countedBy section one p d ≡ refused why → underFlag file flag flags section one c ≡ refused why
+    module _ {n : ℕ} {d : Cursor} (en : countIn file section c ≡ got n d) where
+      pub flag-records : {why : Refusal} → many one n d ≡ refused why → underFlag file flag flags section one c ≡ refused why
       unfolding underFlag
-      flag-records e = rw (on, ep, e)
+      flag-records e = rw (on, en, e)
 
-      module _ {xs : List A} {f : Cursor} (ex : countedBy section one p d ≡ got xs f) where
+      module _ {xs : List A} {f : Cursor} (ex : many one n d ≡ got xs f) where
         pub flag-closing : {why : Refusal} → closing file section f ≡ refused why → underFlag file flag flags section one c ≡ refused why
         unfolding underFlag
-        flag-closing e = rw (on, ep, ex, e)
+        flag-closing e = rw (on, en, ex, e)
 
         pub flag-whole : {g : Cursor} → closing file section f ≡ got tt g → underFlag file flag flags section one c ≡ got xs g
         unfolding underFlag
-        flag-whole e = rw (on, ep, ex, e)
+        flag-whole e = rw (on, en, ex, e)
 
 -- ---- the file
 

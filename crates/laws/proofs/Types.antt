@@ -17,6 +17,7 @@ pub use Rattle.format.specs.declared.module.PlacedHeader.{PlacedHeader}
 pub use Rattle.format.specs.declared.module.Flag.{Flag}
 pub use Rattle.format.specs.declared.module.DataKind.{DataKind}
 pub use Rattle.format.specs.declared.module.MaybeDataKind.{MaybeDataKind}
+pub use Rattle.format.specs.declared.module.Shape.{Shape}
 pub use Rattle.format.specs.declared.module.DataItem.{DataItem}
 pub use Rattle.format.specs.declared.module.ExportEntry.{ExportEntry}
 pub use Rattle.format.specs.declared.module.ImportEntry.{ImportEntry}

@@ -1,4 +1,4 @@
--- What the proofs of the readers share.
+-- What the proofs of the readers share, and what their callers learn of a number that was read.
 -- Assumes nothing.
 use Prim.Native.Nat.{ℕ, _%_, _^_, _<_}
 use mathlib.Core.Path.{_≡_, refl, sym, _∙_}
@@ -12,6 +12,11 @@ use mir.Val.{toZ, ofZ}
 use mir.Facts.{toZ-pos, toZ-ofZ}
 use Rattle.format.specs.declared.types.Cursor.{Cursor}
 use Rattle.format.specs.Reading.{Read, found, short}
+use Rattle.bits.proofs.Signs.{kept}
+use Rattle.laws.proofs.Told.{told}
+use Rattle.reader.specs.declared.NumberRead.{NumberRead}
+use Rattle.reader.specs.declared.NumberRead.the-variants.{Got, Short}
+use Rattle.reader.specs.View.{numberRead}
 
 -- an answer whose value and next place are those of the reading
 pub found-as : {A : Type 0} {o : Read A} {v w : A} {m n : Cursor} → o ≡ found w n → v ≡ w → m ≡ n → found v m ≡ o
@@ -27,3 +32,10 @@ less-128 b h = rw (toZ-pos w32 {n = b} (omega arith))
 
 pub less-128-fits : (b : ℕ) → b < 128 → mag (pos b -ℤ pos 128) < 2 ^ 31
 less-128-fits b h = rw (lt-ltb b 128 h) (omega arith)
+
+-- a number that was read is used by its bits
+pub number-told : {r : NumberRead} {o : Read ℤ} {v : ℤ} {n : Cursor} → numberRead r ≡ o → r ≡ Got v n → mag v < 2 ^ 31 → o ≡ found (toZ w32 (ofZ w32 v)) n
+number-told {v} e q h = rw (kept v h) (told numberRead e q)
+
+pub number-short : {r : NumberRead} {o : Read ℤ} → numberRead r ≡ o → r ≡ Short → o ≡ short
+number-short e q = told numberRead e q

@@ -1,20 +1,10 @@
-use Prim.Native.Nat.{_<_, _^_}
-use mathlib.Core.Path.{_≡_, sym, ap, _∙_}
-use lib.IntN.{ℤ, pos}
-use lib.Signed.{mag}
-use mir.Syntax.{w32}
-use mir.Val.{toZ, ofZ}
-use Rattle.bits.specs.declared.Natural.{Natural}
-use Rattle.bits.specs.Bits.{naturalOf}
-use Rattle.bits.proofs.Signs.{natural-is, natural-not, kept}
+use mathlib.Core.Path.{_≡_, sym, _∙_}
+use lib.IntN.{pos}
+use Rattle.bits.proofs.Signs.{natural-is, natural-not, passed}
 use Rattle.laws.proofs.Names.{shown-before, shown-negative, shown-part}
 use borrow.Author.Needs.{needs}
 use Rattle.reader.proofs.spans.name.Statement.{statement}
 use Rattle.reader.proofs.spans.name.Tie as tie
-
--- a number is passed as its bits
-passed : (x : ℤ) {r s : Natural} → mag x < 2 ^ 31 → r ≡ naturalOf (toZ w32 (ofZ w32 x)) → r ≡ s → s ≡ naturalOf x
-passed x h e g = sym g ∙ e ∙ ap naturalOf (kept x h)
 
 returns : tie.Need-returns
 returns c =

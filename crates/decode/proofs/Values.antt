@@ -1,0 +1,24 @@
+-- What the proofs of types, data, names and handlers share.
+-- Assumes nothing.
+use Prim.Native.Nat.{ℕ, _%_, _^_, _<_}
+use mathlib.Core.Path.{_≡_}
+use lib.Bits.{bitAnd, and-mask}
+use lib.IntN.{ℤ}
+use mir.Syntax.{w32}
+use mir.Val.{toZ, ofZ}
+use Rattle.format.specs.declared.types.Cursor.{Cursor}
+use Rattle.format.specs.declared.module.Shape.{Shape}
+use Rattle.format.specs.Reading.{Read, found}
+use Rattle.format.specs.Records.{elementsOf, lengthOf}
+
+-- a number that was read, which is used by its bits
+abbrev pub NumberIs : Read ℤ → ℤ → Cursor → Type 0
+NumberIs o v next = o ≡ found (toZ w32 (ofZ w32 v)) next
+
+-- the bits below 16
+pub low-four : (n : ℕ) → bitAnd n 15 ≡ n % 16
+low-four n = and-mask n 4
+
+-- what the words of a data item hold of its value
+abbrev pub ItemFits : Shape → ℕ → ℕ → Type 0
+ItemFits s n start = (start < 2 ^ 31) × (elementsOf s n < 2 ^ 31) × (lengthOf s n < 2 ^ 31)

@@ -1,0 +1,38 @@
+-- A row of a section of any kind, and its table words.
+use Prim.Native.Nat.{ℕ}
+use mathlib.Core.List.{List}
+use lib.IntN.{ℤ}
+use Rattle.format.specs.declared.types.Cursor.{Cursor}
+use Rattle.format.specs.declared.refusal.Refusal.the-variants.{TooLarge}
+use Rattle.format.specs.Reading.{Step, got, refused, Reads, _>>=_, given}
+use Rattle.format.specs.Words.{instructionWords, typeWords, itemWords, exportWords, functionWords, caseWords}
+use Rattle.format.specs.Sections.{instructionAt, typeAt, itemAt, exportAt, functionAt, caseAt}
+use Rattle.laws.proofs.Scans.{renamed}
+use Rattle.laws.proofs.Until.{someOf}
+use Rattle.rows.specs.declared.Kind.{Kind}
+use Rattle.rows.specs.declared.Kind.the-variants as K
+use Rattle.rows.specs.declared.Row.{Row}
+use Rattle.rows.specs.declared.Row.the-variants as R
+use Rattle.rows.specs.declared.RowRead.{RowRead}
+use Rattle.rows.specs.declared.RowRead.the-variants as RowRead-is
+
+-- the end of the data is no item
+abbrev pub rowAt : List ℕ → Kind → Reads Cursor Row
+rowAt file K.Code = renamed R.Instruction (instructionAt file)
+rowAt file K.Types = renamed R.Type (typeAt file)
+rowAt file K.Items = renamed R.Item (someOf (itemAt file) TooLarge)
+rowAt file K.Exports = renamed R.Export (exportAt file)
+rowAt file K.Functions = renamed R.Function (functionAt file)
+rowAt file K.Cases = renamed R.Case (caseAt file)
+
+abbrev pub rowWords : Row → List ℤ
+rowWords (R.Instruction i) = instructionWords i
+rowWords (R.Type t) = typeWords t
+rowWords (R.Item d) = itemWords d
+rowWords (R.Export e) = exportWords e
+rowWords (R.Function f) = functionWords f
+rowWords (R.Case c) = caseWords c
+
+abbrev pub rowRead : RowRead → Step Cursor Row
+rowRead (RowRead-is.Got row next) = got row next
+rowRead (RowRead-is.Refused why) = refused why

@@ -1,0 +1,90 @@
+use mathlib.Core.Path.{_≡_, sym, _∙_}
+use mathlib.Core.Bool.{true}
+use native.Mathlib.Omega.{arith}
+use denote.Ref.{now}
+use borrow.Author.Tests.{not-true, not-false}
+use Rattle.format.specs.Reading.{andThen, give, many, tally}
+use Rattle.format.specs.Sections.{countIn}
+use Rattle.bits.proofs.Signs.{kept}
+use Rattle.laws.proofs.Told.{told}
+use Rattle.decode.specs.declared.pieces.CountRead.{CountRead}
+use Rattle.decode.specs.View.{countRead}
+use Rattle.scan.specs.declared.sections.ClosedRead.{ClosedRead}
+use Rattle.rows.specs.Groups.{groupAt, groupWeight, sectionOf, flagOf, flaggedAt}
+use Rattle.scan.specs.Sums.{summed, closedRead}
+use Rattle.scan.proofs.Facts.{section-not, section-count, section-groups, section-closed}
+use borrow.Author.Needs.{needs}
+use Rattle.scan.proofs.sections.scan_section.Statement.{statement}
+use Rattle.scan.proofs.sections.scan_section.Tie as tie
+
+flag-is : (c : tie.After-flag-of) → let a = c .before .before .args in c .flag-of .result ≡ flagOf (a .group) (a .flags)
+flag-is c = let s = c .before .before in rw (kept (s .args .flags) (omega (arith, s .fits .flags))) at (c .flag-of .ensures)
+
+returns : tie.Need-returns
+returns c = let a = c .before .before .before .args in sym (section-not _ (a .group) (a .flags) _ (sym (flag-is (c .before)) ∙ not-true _ (c .if1 .taken)))
+
+on-is : (c : tie.After-section-of) → let a = c .before .before .before .before .args in flagOf (a .group) (a .flags) ≡ true
+on-is c = sym (flag-is (c .before .before)) ∙ not-false _ (c .before .if1 .left)
+
+counts-are : (c : tie.After-read-count) {r : CountRead} → c .read-count .result ≡ r →
+    let a = c .before .before .before .before .before .args in
+    countIn (now (a .file)) (sectionOf (a .group)) (a .c) ≡ countRead r
+counts-are c q = told countRead (rw (c .before .section-of .ensures) at (c .read-count .ensures)) q
+
+returns-2 : tie.Need-returns-2
+returns-2 c =
+    let r = c .before .before .before in
+    let a = r .before .before .before .before .before .args in
+    sym (section-count _ (a .group) (a .flags) _ (on-is (r .before)) (counts-are r (c .before .why .given .1)))
+
+groups-are : (c : tie.After-scan-groups) {r : CountRead} → c .scan-groups .result ≡ r →
+    let n = c .before .before .count .given .0 in
+    let a = c .before .before .before .before .before .before .before .before .before .args in
+    tally groupWeight (many (groupAt (now (a .file)) (a .group)) (n .0) (n .1 .0)) ≡ countRead r
+groups-are c q = told countRead (c .scan-groups .ensures) q
+
+returns-3 : tie.Need-returns-3
+returns-3 c =
+    let g = c .before .before .before in
+    let r = g .before .before .before .before in
+    let a = r .before .before .before .before .before .args in
+    sym (section-groups _ (a .group) (a .flags) _ (on-is (r .before)) (counts-are r (g .before .before .count .given .1)) (groups-are g (c .before .why2 .given .1)))
+
+-- the closing byte is the last thing that is asked
+closed : (c : tie.After-close) {r : ClosedRead} → c .close .result ≡ r →
+    let g = c .before .before .before .before in
+    let a = g .before .before .before .before .before .before .before .before .before .args in
+    summed (flaggedAt (now (a .file)) (a .group) (a .flags) (a .c)) ≡ andThen (closedRead r) (λ _. give (g .before .before .count .given .0 .0, c .before .before .words .given .0 .0))
+closed c {r} q =
+    let g = c .before .before .before .before in
+    let n = g .before .before .before .before in
+    let a = n .before .before .before .before .before .args in
+    section-closed _ (a .group) (a .flags) _ (on-is (n .before)) (counts-are n (g .before .before .count .given .1)) (groups-are g (c .before .before .words .given .1))
+    (closedRead r) (told closedRead (rw (n .before .section-of .ensures) at (c .close .ensures)) q)
+
+returns-4 : tie.Need-returns-4
+returns-4 c = sym (closed (c .before .before .before) (c .before .why3 .given .1))
+
+returns-5 : tie.Need-returns-5
+returns-5 c = sym (closed (c .before .before .before) (c .before .next .given .1))
+
+pub scan-section-spec : {M : Type 1} → statement M
+scan-section-spec =
+    tie.close
+    (tie.spec
+    (λ c κs. search needs)
+    returns
+    (λ c κs. search needs)
+    (λ c κs. search needs)
+    (λ c. search needs)
+    (λ c. search needs)
+    (λ c κs. search needs)
+    (λ c. search needs)
+    (λ c. search needs)
+    (λ c κs. search needs)
+    (λ c. search needs)
+    (λ c. search needs)
+    returns-2
+    returns-3
+    returns-4
+    returns-5)
