@@ -1,8 +1,10 @@
+pub mod Cut
 pub mod Fills
 pub mod Flatten
 pub mod Groups
 pub mod Items
 pub mod Limit
+pub mod Loads
 pub mod Many
 pub mod Moves
 pub mod Names

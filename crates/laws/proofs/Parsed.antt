@@ -1,14 +1,16 @@
 -- The whole file by its sections: the first refusal of one refuses the file, and what each says, in order, is the records. Each law is one `rw`.
 -- Assumes nothing.
 use Prim.Native.Nat.{ℕ}
-use mathlib.Core.Path.{_≡_}
+use mathlib.Core.Path.{_≡_, refl, sym, ap, _∙_}
 use mathlib.Core.Bool.{true, false}
 use mathlib.Core.List.{List, []}
 use lib.IntN.{ℤ, pos, negsuc}
+use lib.ListN.{length}
 use Rattle.laws.proofs.Types.{Cursor, Refusal, Span, Placed, PlacedHeader, Instruction, TypeDescriptor, DataItem, ExportEntry, ImportEntry, NegativeCount}
-use Rattle.format.specs.Reading.{got, refused, many}
+use Rattle.format.specs.Reading.{got, refused, give, _>>_, many}
 use Rattle.format.specs.Records.{Handled, has}
 use Rattle.format.specs.Sections.{Reading, countIn, nameIn, countedBy, headerAt, instructionAt, typeAt, itemsAt, exportAt, importAt, handlerAt, closing, underFlag, parse}
+use Rattle.laws.proofs.Many.{parts-of, many-length}
 
 -- ---- counted records
 
@@ -20,6 +22,17 @@ module _ {A : Type 0} (section : ℕ) (one : Reading A) (p : Placed) (c : Cursor
   pub counted-many : p .value ≡ pos n → countedBy section one p c ≡ many one n c
   unfolding countedBy
   counted-many e = rw e
+
+-- where the count is known, the records were read one after another
+module _ {A : Type 0} (section : ℕ) (one : Reading A) (p : Placed) (c : Cursor) {xs : List A} {q : Cursor} where
+  got-by : (v : ℤ) → p .value ≡ v → countedBy section one p c ≡ got xs q → many one (length xs) c ≡ got xs q
+  got-by (pos n) v e =
+      let m : many one n c ≡ got xs q = sym (counted-many section one p c v) ∙ e in
+      ap (λ (k : ℕ). many one k c) (many-length one n c m) ∙ m
+  got-by (negsuc n) v e = let r = counted-negative section one p c v in cc
+
+  pub counted-got : countedBy section one p c ≡ got xs q → many one (length xs) c ≡ got xs q
+  counted-got e = got-by (p .value) refl e
 
 -- ---- a section under a flag
 
@@ -46,6 +59,14 @@ module _ (file : List ℕ) {A : Type 0} (flag : ℕ) (flags : ℤ) (section : �
         pub flag-whole : {g : Cursor} → closing file section f ≡ got tt g → underFlag file flag flags section one c ≡ got xs g
         unfolding underFlag
         flag-whole e = rw (on, en, ex, e)
+
+      pub flag-some : {xs : List A} {q : Cursor} → underFlag file flag flags section one c ≡ got xs q → (f : Cursor) × (many one n d ≡ got xs f)
+      unfolding underFlag
+      flag-some {xs} {q} e =
+          let p = parts-of (many one n d) (λ records. closing file section >> give records) (rw (on, en) at e) in
+          let r = parts-of (closing file section (p .next)) (λ _. give (p .value)) (p .rest) in
+          let same : p .value ≡ xs = cc (r .rest) in
+          (p .next, p .first ∙ ap (λ (l : List A). got l (p .next)) same)
 
 -- ---- the file
 

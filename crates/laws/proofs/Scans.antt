@@ -5,6 +5,7 @@ use mathlib.Core.Path.{_≡_, refl, ap, _∙_}
 use mathlib.Core.List.{List, [], _∷_, _++_, map}
 use native.Mathlib.Nat.{zero-add, add-assoc}
 use native.Mathlib.Omega.{arith}
+use lib.ListN.{length}
 use Rattle.laws.proofs.Types.{Refusal}
 use Rattle.format.specs.Reading.{Step, got, refused, Reads, andThen, give, before, many, leading, thenList, endOf, thenPlace, reached, total, tally}
 use Rattle.format.specs.Words.{flatten}
@@ -53,6 +54,11 @@ module _ {P A : Type 0} (weigh : A → ℕ) where
   untallied (got xs next) e = let z : _≡_ {A = ℕ} 0 1 = cc in absurd (omega arith)
   untallied (refused r) e = ap refused (cc)
 
+-- where each weighs 1, how many there are
+pub total-ones : {A : Type 0} (xs : List A) → total (λ x. 1) xs ≡ length xs
+total-ones [] = refl
+total-ones (x ∷ xs) = rw (total-ones xs) (omega arith)
+
 -- ---- where it stops
 
 module _ {P A : Type 0} (read : Reads P A) where
@@ -85,7 +91,7 @@ total-renamed : {A B : Type 0} (name : A → B) (weigh : B → ℕ) (xs : List A
 total-renamed name weigh [] = refl
 total-renamed name weigh (x ∷ xs) = rw (total-renamed name weigh xs)
 
-all-renamed : {P A B : Type 0} (name : A → B) (weigh : B → ℕ) (s : Step P (List A)) → tally weigh (andThen s (λ xs. give (map name xs))) ≡ tally (λ x. weigh (name x)) s
+pub all-renamed : {P A B : Type 0} (name : A → B) (weigh : B → ℕ) (s : Step P (List A)) → tally weigh (andThen s (λ xs. give (map name xs))) ≡ tally (λ x. weigh (name x)) s
 unfolding tally
 all-renamed name weigh (got xs q) = rw (total-renamed name weigh xs)
 all-renamed name weigh (refused r) = refl

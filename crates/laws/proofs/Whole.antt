@@ -7,11 +7,12 @@ use mathlib.Core.Option.{Option, none, some}
 use native.Mathlib.Omega.{arith}
 use lib.IntN.{pos}
 use Rattle.laws.proofs.Types.{Cursor, Handler, ExceptionCase, Refusal}
-use Rattle.format.specs.Reading.{Step, got, refused, Reads, andThen, give, sound, before, many, leading, Whole}
+use Rattle.format.specs.Reading.{Step, got, refused, Reads, andThen, give, sound, before, many, leading, reached, Whole}
 use Rattle.format.specs.Sections.{operandIn, caseAt, lastAt, casesAt, fourIn, headAt}
 use Rattle.format.specs.Checks.{firstOf}
 use Rattle.bits.specs.Bits.{bitsOf}
-use Rattle.laws.proofs.Many.{parts-of, many-done, many-turn, many-stop, leading-done, leading-turn, leading-stop}
+use Rattle.laws.proofs.Many.{parts-of, many-done, many-turn, many-stop, many-leading, leading-done, leading-turn, leading-stop}
+use Rattle.laws.proofs.Scans.{reached-many}
 
 -- ---- what is whole has whole parts
 
@@ -26,6 +27,14 @@ whole-rest x (refused r) w = w
 -- what is refused is not whole
 pub not-whole : {P A : Type 0} {s : Step P A} {r : Refusal} → Whole s → s ≡ refused r → ⊥
 not-whole {s} w e = rw e at w
+
+-- and what is whole was got
+pub whole-got : {P A : Type 0} (s : Step P A) → Whole s → (x : A) × (q : P) × (s ≡ got x q)
+whole-got (got x q) w = (x, q, refl)
+whole-got (refused r) w = absurd w
+
+pub whole-many : {P A : Type 0} (read : Reads P A) (n : ℕ) (p : P) → Whole (many read n p) → many read n p ≡ got (leading read n p) (reached read n p)
+whole-many read n p w = let e = whole-got (many read n p) w .2 in rw (many-leading read n p e, reached-many read n p e) e
 
 module _ {P A : Type 0} (read : Reads P A) (n : ℕ) (p : P) (w : Whole (many read n p)) (h : 0 < n) where
   first-whole : (s : Step P A) → read p ≡ s → Whole s

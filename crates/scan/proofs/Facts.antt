@@ -5,10 +5,8 @@ use mathlib.Core.Path.{_≡_, sym, ap, _∙_}
 use mathlib.Core.Bool.{true, false}
 use mathlib.Core.List.{List, [], _∷_, _++_, map}
 use native.Mathlib.Omega.{arith}
-use lib.IntN.{ℤ, pos}
+use lib.IntN.{ℤ}
 use lib.ListN.{length, length-append, length-map}
-use mir.Syntax.{w32}
-use mir.Val.{toZ, ofZ}
 use Rattle.format.specs.declared.types.Cursor.{Cursor}
 use Rattle.format.specs.declared.module.Handler.{Handler}
 use Rattle.format.specs.declared.module.ImportEntry.{ImportEntry}
@@ -19,7 +17,6 @@ use Rattle.format.specs.Reading.{Step, got, refused, found, short, andThen, giv
 use Rattle.format.specs.Operands.{operandAt}
 use Rattle.format.specs.Words.{flatten, importWords, handledWords}
 use Rattle.format.specs.Sections.{nowhere, countIn, functionAt, importAt, caseAt, lastAt, casesAt, headAt, handlerAt, closing, underFlag}
-use Rattle.bits.proofs.Signs.{kept}
 use Rattle.laws.proofs.Flatten.{total-flatten}
 use Rattle.laws.proofs.Groups.{Cased, flag-renamed}
 use Rattle.laws.proofs.Limit.{import-weighs, handler-weighs}
@@ -53,9 +50,6 @@ module _ (file : List ℕ) (c : Cursor) {n : ℕ} {d : Cursor} (counts : countIn
       rw (counts, all, import-weight (leading (functionAt file) n d) (many-length (functionAt file) n d all))
 
 -- ---- a handler
-
-pub cases-are : {z : ℤ} (k : Cased z) → toZ w32 (ofZ w32 z) ≡ pos (k .number)
-cases-are k = rw (k .is) (kept (pos (k .number)) (omega arith))
 
 handled-weight : (h : Handler) (xs : List ExceptionCase) (x : ExceptionCase) {n : ℕ} → 1 ≤ n → length xs ≡ n - 1 → 5 + n * 3 ≡ length (handledWords (h, xs ++ x ∷ []))
 handled-weight h xs x least e = omega (arith, handled-width (h, xs ++ x ∷ []), length-append xs (x ∷ []))

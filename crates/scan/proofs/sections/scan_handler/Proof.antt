@@ -4,7 +4,7 @@ use native.Mathlib.Omega.{arith}
 use denote.Ref.{now}
 use Rattle.format.specs.Reading.{got, many, endOf}
 use Rattle.format.specs.Sections.{headAt, handlerAt}
-use Rattle.laws.proofs.Groups.{Cased, head-cases}
+use Rattle.laws.proofs.Groups.{Cased, head-cases, cases-are}
 use Rattle.laws.proofs.Told.{told}
 use Rattle.reader.specs.View.{numberRead}
 use Rattle.decode.specs.View.{headRead}
@@ -13,7 +13,7 @@ use Rattle.scan.specs.declared.runs.EndRead.{EndRead}
 use Rattle.rows.specs.Rows.{rowAt}
 use Rattle.scan.specs.Ends.{endRead}
 use Rattle.scan.specs.Sums.{weighed}
-use Rattle.scan.proofs.Facts.{cases-are, handler-stops, handler-short, handler-ends}
+use Rattle.scan.proofs.Facts.{handler-stops, handler-short, handler-ends}
 use borrow.Author.Needs.{needs}
 use Rattle.scan.proofs.sections.scan_handler.Statement.{statement}
 use Rattle.scan.proofs.sections.scan_handler.Tie as tie

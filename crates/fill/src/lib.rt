@@ -1,0 +1,3 @@
+// The second pass: the table words, from a place on, in file order. The file was scanned: what is read here was read before.
+pub mod groups;
+pub mod runs;
