@@ -19,7 +19,8 @@ use Rattle.format.specs.Reading.{Step, got, refused, Reads, andThen, give, soun
 use Rattle.format.specs.Sections.{nowhere, operandIn, caseAt, lastAt, casesAt, headAt, handlerAt}
 use Rattle.format.specs.Checks.{below, caseFault, ownFault, handlerFault}
 use Rattle.bits.proofs.Signs.{kept}
-use Rattle.laws.proofs.Whole.{whole-part, whole-rest, cases-done, cases-turn, cases-some, head-cases}
+use Rattle.laws.proofs.Whole.{whole-part, whole-rest, cases-done, cases-turn, cases-some}
+use Rattle.laws.proofs.Groups.{head-cases}
 use Rattle.checks.specs.View.{lastChecked, casesChecked, handlerChecked}
 
 -- handler k has n cases before the last, of which `left` are left
@@ -71,10 +72,10 @@ is-pos e = rw e
 
 module _ (file : List ℕ) (c : Cursor) {h : Handler} {next : Cursor} (e : headAt file c ≡ got h next) where
   pub count-range : (0 < mag (h .cases)) × (mag (h .cases) < 2 ^ 31)
-  count-range = let n = head-cases file c e in omega (arith, ap mag (n .1), n .2)
+  count-range = let n = head-cases file c e in omega (arith, ap mag (n .is), n .least, n .most)
 
   pub count-kept : toZ w32 (ofZ w32 (h .cases)) ≡ pos (mag (h .cases))
-  count-kept = kept (h .cases) (count-range .1) ∙ is-pos (head-cases file c e .1)
+  count-kept = kept (h .cases) (count-range .1) ∙ is-pos (head-cases file c e .is)
 
 -- handler k, whose head was read
 module _ (file : List ℕ) (code types k : ℕ) (c : Cursor) {h : Handler} {next : Cursor} (e : headAt file c ≡ got h next) where

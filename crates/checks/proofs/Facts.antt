@@ -9,7 +9,8 @@ use lib.IntN.{ℤ, pos, negsuc}
 use lib.Signed.{mag, leZ, ltZ}
 use mir.Syntax.{w32}
 use mir.Val.{toZ, ofZ}
-use Rattle.bits.proofs.Signs.{kept}
+use Rattle.bits.proofs.Signs.{kept, below-zero, not-below}
+use Rattle.format.specs.Checks.{below}
 
 module _ {t ok : Bool} (e : t ≡ ok) where
   pub fails : not t ≡ true → ok ≡ false
@@ -31,3 +32,10 @@ more-thanZ (negsuc a) (negsuc b) t e = more-than b a t e
 -- a test `a <= b` is of the bits
 pub is-more : (a b : ℤ) → mag a < 2 ^ 31 → mag b < 2 ^ 31 → {t : Bool} → leZ (toZ w32 (ofZ w32 a)) (toZ w32 (ofZ w32 b)) ≡ t → ltZ b a ≡ not t
 is-more a b h k {t} e = more-thanZ a b t (rw (kept a h, kept b k) at e)
+
+-- one that is not negative
+pub under-below : (n : ℕ) (v : ℤ) → ltZ v (pos 0) ≡ false → ltZ v (pos n) ≡ below n v
+under-below n v e = rw (not-below v e)
+
+pub under-negative : (n : ℕ) (v : ℤ) → ltZ v (pos 0) ≡ true → ltZ v (pos n) ≡ true
+under-negative n v e = rw (below-zero v e)

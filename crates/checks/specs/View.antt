@@ -4,11 +4,9 @@ use mathlib.Core.Option.{Option, none, some}
 use mathlib.Core.Bool.{_||_}
 use mathlib.Core.List.{List}
 use Rattle.format.specs.declared.types.Cursor.{Cursor}
-use Rattle.format.specs.declared.module.ExceptionCase.{ExceptionCase}
 use Rattle.format.specs.declared.refusal.Refusal.{Refusal}
 use Rattle.format.specs.declared.refusal.Refusal.the-variants.{CasePc}
 use Rattle.format.specs.Reading.{Step, got, refused, Reads, _>>=_, sound}
-use Rattle.format.specs.Records.{Handled}
 use Rattle.format.specs.Sections.{operandIn, casesAt, handlerAt}
 use Rattle.format.specs.Checks.{unless, below, minusOne, caseFault, handlerFault}
 use Rattle.checks.specs.declared.records.Fault.{Fault}

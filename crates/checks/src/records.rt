@@ -36,10 +36,10 @@ pub fn below(n: usize, v: i32) -> bool
 fn under(n: usize, v: i32) -> bool
     ensures { λ r. ⌜ r ≡ ltZ v (pos n) ⌝ }
 {
-    let Natural::Is(k) = as_natural(v) else {
+    if v < 0 {
         return true;
-    };
-    k < n
+    }
+    below(n, v)
 }
 
 // -1, or 0..n-1.

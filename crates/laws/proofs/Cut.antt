@@ -18,7 +18,7 @@ use Rattle.laws.proofs.Types.{Cursor, Span, Refusal, Ended, LoadAnswer,
 use Rattle.format.specs.declared.module.Shape.the-variants as S
 use Rattle.format.specs.declared.instruction.AddressMode.the-variants as A
 use Rattle.format.specs.declared.instruction.MiddleMode.the-variants as M
-use Rattle.format.specs.Reading.{Read, found, short, front, upTo, past, Step, got, refused, Reads, andThen, _>>=_, _>>_, give, refuse, here, check, natural, given, whole, piece, before, many, orEnd, untilNone}
+use Rattle.format.specs.Reading.{Read, found, short, front, upTo, past, Step, got, refused, Reads, andThen, _>>=_, give, refuse, here, check, natural, given, whole, piece, before, many, orEnd, untilNone}
 use Rattle.format.specs.Operands.{byteAt, operandForm, operandAt, wordAt, spanAt, spanOf, nameAt, byte, zeroIn, endedBy, shown}
 use Rattle.format.specs.Refusals.{numberedOf}
 use Rattle.bits.specs.Bits.{sameZ}

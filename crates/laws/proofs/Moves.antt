@@ -1,6 +1,6 @@
 -- Reading goes forward: at least k bytes, and never past the end of the file. A `do` block moves as its parts do.
 -- Assumes nothing.
-use Prim.Native.Nat.{ℕ, zero, suc, _+_, _-_, _*_, _/_, _%_, _^_, _≤_, _<_}
+use Prim.Native.Nat.{ℕ, zero, suc, _+_, _-_, _*_, _/_, _%_, _≤_, _<_}
 use mathlib.Core.Path.{_≡_, refl}
 use mathlib.Core.Bool.{Bool, true, false, cond}
 use mathlib.Core.List.{List, [], _∷_}
@@ -16,9 +16,9 @@ use Rattle.laws.proofs.Types.{Cursor, Span, Refusal, Placed, AddressMod
 use Rattle.format.specs.declared.module.Shape.the-variants as S
 use Rattle.format.specs.declared.instruction.AddressMode.the-variants as A
 use Rattle.format.specs.declared.instruction.MiddleMode.the-variants as M
-use Rattle.format.specs.Reading.{Read, found, short, upTo, past, got, Reads, _>>=_, _>>_, give, refuse, here, check, natural, given, whole, piece, many, untilNone}
+use Rattle.format.specs.Reading.{Read, found, short, upTo, past, got, Reads, _>>=_, give, refuse, here, check, natural, given, whole, piece, many}
 use Rattle.format.specs.Operands.{byteAt, operandForm, operandAt, wordAt, spanAt, nameAt, byte, zeroIn, endedBy}
-use Rattle.bits.specs.Bits.{bitsOf, sameZ}
+use Rattle.bits.specs.Bits.{sameZ}
 use Rattle.format.specs.Records.{shapeOf, lengthOf, kindOf, modeOf, byMode, middleOf, byMiddle, addressingOf, has}
 use Rattle.format.specs.Sections.{plainMagic, signedMagic, byteIn, operandIn, wordIn, nameIn, spanIn, placedIn, fourIn, countIn, countedBy, sizedIn, signatureFor, headerAt, oneRegister, twoRegisters, addressedAt, middleRegister, middleAt, operandsAt, instructionAt, typeAt, passOver, valueAt, elementsAt, offsetAt, codedAt, itemAt, itemsAt, exportAt, functionAt, importAt, caseAt, lastAt, casesAt, headAt, handlerAt, closing, underFlag, parse}
 use Rattle.laws.proofs.Many.{parts-of, many-ind}

@@ -1,16 +1,14 @@
 -- Records that can all be read, as a scan has found: a loop over them meets no refusal. And checks of records that are read on the way.
 -- Assumes nothing.
-use Prim.Native.Nat.{ℕ, suc, _+_, _-_, _%_, _^_, _≤_, _<_}
+use Prim.Native.Nat.{ℕ, suc, _+_, _-_, _≤_, _<_}
 use mathlib.Core.Path.{_≡_, refl, sym, ap}
 use mathlib.Core.List.{List, [], _∷_, _++_}
 use mathlib.Core.Option.{Option, none, some}
 use native.Mathlib.Omega.{arith}
-use lib.IntN.{pos}
-use Rattle.laws.proofs.Types.{Cursor, Handler, ExceptionCase, Refusal}
+use Rattle.laws.proofs.Types.{Cursor, ExceptionCase, Refusal}
 use Rattle.format.specs.Reading.{Step, got, refused, Reads, andThen, give, sound, before, many, leading, reached, Whole}
-use Rattle.format.specs.Sections.{operandIn, caseAt, lastAt, casesAt, fourIn, headAt}
+use Rattle.format.specs.Sections.{caseAt, lastAt, casesAt}
 use Rattle.format.specs.Checks.{firstOf}
-use Rattle.bits.specs.Bits.{bitsOf}
 use Rattle.laws.proofs.Many.{parts-of, many-done, many-turn, many-stop, many-leading, leading-done, leading-turn, leading-stop}
 use Rattle.laws.proofs.Scans.{reached-many}
 
@@ -87,15 +85,7 @@ module _ {P A : Type 0} (read : Reads P A) (each : ℕ → A → Option Refusal)
         let up : suc (n - left) ≡ n - (left - 1) = omega arith in
         rw (leading-turn read left p h e, f, up)
 
--- ---- a handler: its head and its cases
-
-pub head-cases : (file : List ℕ) (c : Cursor) {h : Handler} {d : Cursor} → headAt file c ≡ got h d → (n : ℕ) × (h .cases ≡ pos (n + 1)) × (n < 2 ^ 16)
-unfolding headAt
-head-cases file c {h} e =
-    let four = parts-of (fourIn file 8 c) _ e in
-    let packed = parts-of (operandIn file 8 (four .next)) _ (four .rest) in
-    let n = bitsOf (2 ^ 31) (packed .value) % 2 ^ 16 in
-    (n, cc, omega arith)
+-- ---- a handler's cases
 
 -- some cases and the last
 abbrev withLast : List ℕ → Step Cursor (List ExceptionCase) → Step Cursor (List ExceptionCase)

@@ -17,7 +17,7 @@ use Rattle.format.specs.declared.module.LoadAnswer.the-variants.{Loaded, Refuse
 use Rattle.format.specs.Load.{loadOf}
 use Rattle.format.specs.Put.{put}
 use Rattle.format.specs.Reading.{Step, got, refused, many, leading, front, Whole}
-use Rattle.format.specs.Records.{Handled, Records, moduleOf, has, sizeLimit, wordLimit}
+use Rattle.format.specs.Records.{Records, moduleOf, has, sizeLimit, wordLimit}
 use Rattle.format.specs.Words.{instructionWidth, typeWidth, itemWidth, exportWidth, importWords, handledWords, tableWords, wordsNeeded}
 use Rattle.format.specs.Sections.{Reading, countIn, countedBy, exportAt, handlerAt, underFlag, parse}
 use Rattle.format.specs.Checks.{_then_, firstOf, headerFault, exportFault, handlerFault, faultIn}

@@ -1,15 +1,14 @@
 -- What the proofs of the readers share, and what their callers learn of a number that was read.
 -- Assumes nothing.
-use Prim.Native.Nat.{ℕ, _%_, _^_, _<_}
-use mathlib.Core.Path.{_≡_, refl, sym, _∙_}
-use native.Mathlib.Omega.{arith}
-use borrow.Author.Tests.{lt-ltb}
+use Prim.Native.Nat.{ℕ, _%_, _^_, _≤_, _<_}
+use mathlib.Core.Path.{_≡_, sym}
+use borrow.Author.Tests.{lt-ltb, le-ltb}
 use lib.Bits.{bitAnd, and-mask}
 use lib.IntN.{ℤ, pos, _-ℤ_}
 use lib.Signed.{mag}
 use mir.Syntax.{w32}
 use mir.Val.{toZ, ofZ}
-use mir.Facts.{toZ-pos, toZ-ofZ}
+use Rattle.bits.specs.Bits.{signed}
 use Rattle.format.specs.declared.types.Cursor.{Cursor}
 use Rattle.format.specs.Reading.{Read, found, short}
 use Rattle.bits.proofs.Signs.{kept}
@@ -26,12 +25,9 @@ found-as e p q = rw (p, q) (sym e)
 pub low-six : (n : ℕ) → bitAnd n 63 ≡ n % 64
 low-six n = and-mask n 6
 
--- the byte less 128, as 32 bits hold it
-pub less-128 : (b : ℕ) → b < 128 → toZ w32 b -ℤ pos 128 ≡ pos b -ℤ pos 128
-less-128 b h = rw (toZ-pos w32 {n = b} (omega arith))
-
-pub less-128-fits : (b : ℕ) → b < 128 → mag (pos b -ℤ pos 128) < 2 ^ 31
-less-128-fits b h = rw (lt-ltb b 128 h) (omega arith)
+-- seven bits of which the highest is set are the byte less 128
+pub less-128 : (b : ℕ) → 64 ≤ b → b < 128 → signed 64 b ≡ pos b -ℤ pos 128
+less-128 b m h = rw (le-ltb b 64 m, lt-ltb b 128 h)
 
 -- a number that was read is used by its bits
 pub number-told : {r : NumberRead} {o : Read ℤ} {v : ℤ} {n : Cursor} → numberRead r ≡ o → r ≡ Got v n → mag v < 2 ^ 31 → o ≡ found (toZ w32 (ofZ w32 v)) n

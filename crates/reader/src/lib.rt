@@ -60,7 +60,7 @@ pub fn read_operand(file: &[u8], c: Cursor) -> NumberRead
             next: c.past(1),
         },
         64..=127 => NumberRead::Got {
-            value: (b as i32) - 128,
+            value: signed(0x40, b as u32),
             next: c.past(1),
         },
         128..=191 => {

@@ -4,7 +4,7 @@ use mathlib.Core.List.{List}
 use lib.IntN.{ℤ}
 use Rattle.format.specs.declared.types.Cursor.{Cursor}
 use Rattle.format.specs.declared.refusal.Refusal.the-variants.{TooLarge}
-use Rattle.format.specs.Reading.{Step, got, refused, Reads, _>>=_, given}
+use Rattle.format.specs.Reading.{Step, got, refused, Reads}
 use Rattle.format.specs.Words.{instructionWords, typeWords, itemWords, exportWords, functionWords, caseWords}
 use Rattle.format.specs.Sections.{instructionAt, typeAt, itemAt, exportAt, functionAt, caseAt}
 use Rattle.laws.proofs.Scans.{renamed}

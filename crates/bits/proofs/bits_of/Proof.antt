@@ -1,10 +1,8 @@
-use mathlib.Core.Path.{_≡_, _∙_, ap}
+use mathlib.Core.Path.{ap}
 use native.Mathlib.Omega.{arith}
 use borrow.Author.Needs.{needs}
-use lib.IntN.{pos, negsuc}
 use lib.Signed.{mag}
 use mir.Facts.{toZ-ofZ}
-use Rattle.bits.specs.Bits.{bitsOf}
 use Rattle.bits.proofs.Signs.{below-zero, not-below}
 use Rattle.bits.proofs.bits_of.Statement.{statement}
 use Rattle.bits.proofs.bits_of.Tie as tie

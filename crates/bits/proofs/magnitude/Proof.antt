@@ -4,7 +4,7 @@ use lib.IntN.{pos, negsuc, natAbs, _-ℤ_}
 use lib.Signed.{mag}
 use mir.Syntax.{w32}
 use mir.Val.{toZ, ofZ}
-use mir.Facts.{toZ-pos, toZ-ofZ}
+use mir.Facts.{toZ-ofZ}
 use Rattle.bits.proofs.Signs.{flip, not-below}
 use Rattle.bits.proofs.magnitude.Statement.{statement}
 use Rattle.bits.proofs.magnitude.Tie as tie

@@ -1,4 +1,4 @@
-use mathlib.Core.Path.{_≡_, subst}
+use mathlib.Core.Path.{subst}
 use denote.Ref.{now}
 use borrow.Author.Needs.{needs}
 use Rattle.survey.specs.Survey.{FrontSays, MiddleSays, BackSays, FrontIs, MiddleIs, BackIs}

@@ -1,4 +1,4 @@
-use mathlib.Core.Path.{_≡_, _∙_}
+use mathlib.Core.Path.{_∙_}
 use Rattle.laws.proofs.Told.{told}
 use Rattle.decode.specs.View.{instructionRead, typeRead, exportRead, functionRead, caseRead}
 use borrow.Author.Needs.{needs}

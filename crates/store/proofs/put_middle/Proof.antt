@@ -1,4 +1,3 @@
-use mathlib.Core.Path.{_≡_}
 use native.Mathlib.Omega.{arith}
 use Rattle.store.proofs.Facts.{two-numbered}
 use borrow.Author.Needs.{needs}

@@ -1,4 +1,3 @@
-use mathlib.Core.Path.{_≡_}
 use Rattle.fill.proofs.Facts.{row-fits, row-put}
 use borrow.Author.Needs.{needs}
 use Rattle.fill.proofs.runs.put_row.Statement.{statement}

@@ -1,5 +1,4 @@
 use Prim.Native.Nat.{_/_}
-use mathlib.Core.Path.{_≡_}
 use lib.Bits.{and-mask}
 use Rattle.format.proofs.instruction.addressing_of.Statement.{statement}
 use Rattle.format.proofs.instruction.addressing_of.Tie as tie

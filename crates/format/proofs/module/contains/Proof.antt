@@ -1,6 +1,5 @@
-use Prim.Native.Nat.{ℕ, _/_, _%_, _^_}
+use Prim.Native.Nat.{ℕ, _/_, _^_}
 use mathlib.Core.Path.{_≡_, sym, ap, _∙_}
-use mathlib.Core.Bool.{Bool}
 use native.Mathlib.Nat.{div-one}
 use lib.Bits.{bitAnd, and-mask}
 use lib.Dec.{eqb}

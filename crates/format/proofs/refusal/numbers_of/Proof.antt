@@ -1,4 +1,4 @@
-use Prim.Native.Nat.{ℕ, _<_, _^_}
+use Prim.Native.Nat.{_<_, _^_}
 use mathlib.Core.Path.{_≡_, sym, ap, _∙_}
 use lib.IntN.{ℤ}
 use lib.Signed.{mag}

@@ -1,8 +1,5 @@
-use Prim.Native.Nat.{ℕ, suc, _<_, _^_}
-use mathlib.Core.Path.{_≡_, sym, ap, _∙_}
-use mathlib.Core.Option.{none}
+use mathlib.Core.Path.{sym, _∙_}
 use native.Mathlib.Omega.{arith}
-use denote.Ref.{now}
 use borrow.Author.Needs.{needs}
 use Rattle.bits.proofs.Signs.{kept}
 use Rattle.laws.proofs.Told.{told}

@@ -1,14 +1,12 @@
-use Prim.Native.Nat.{ℕ, _≤_}
-use mathlib.Core.Path.{_≡_, refl, sym, ap, _∙_}
-use mathlib.Core.List.{List, []}
+use Prim.Native.Nat.{_≤_}
+use mathlib.Core.Path.{_≡_}
 use native.Mathlib.Omega.{arith}
 use denote.Ref.{now}
-use lib.IntN.{ℤ}
 use lib.ListN.{length}
 use mir.Syntax.{w32}
 use mir.Val.{toZ, ofZ}
 use borrow.Author.Needs.{needs}
-use Rattle.format.specs.Words.{tableWords, wordsNeeded}
+use Rattle.format.specs.Words.{wordsNeeded}
 use Rattle.bits.proofs.Signs.{kept}
 use Rattle.load.proofs.Facts.{records, parsed}
 use Rattle.load.proofs.Laying.{none-yet, room, more, parts, code-words, type-words, item-words, export-words, import-whole, import-words, handler-whole, handler-words, table-is, Code, Types, Items, Exports, Imports}

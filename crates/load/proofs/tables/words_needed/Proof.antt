@@ -1,4 +1,4 @@
-use mathlib.Core.Path.{_≡_, sym}
+use mathlib.Core.Path.{sym}
 use native.Mathlib.Omega.{arith}
 use Rattle.load.proofs.Facts.{parsed, sum, limit}
 use Rattle.load.proofs.tables.words_needed.Statement.{statement}
