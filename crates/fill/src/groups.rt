@@ -1,13 +1,13 @@
 // Import modules with their functions, handlers with their cases.
 use crate::runs::Filled;
 use crate::runs::fill_rows;
-use decode::handlers::HeadRead;
-use decode::handlers::read_head;
-use decode::pieces::CountRead;
-use decode::pieces::read_count;
 use format::module::ExceptionCase;
 use format::types::Cursor;
 use format::types::Span;
+use handlers::HeadRead;
+use handlers::read_head;
+use pieces::CountRead;
+use pieces::read_count;
 use reader::NumberRead;
 use reader::read_operand;
 use rows::Kind;

@@ -5,7 +5,6 @@ use lib.IntN.{ℤ}
 use Rattle.format.specs.Types.{TypeDescriptor, Instruction, DataKind, Header, DataItem, ExportEntry, ImportEntry, ExceptionCase}
 use Rattle.format.specs.Operands.{shown}
 use Rattle.format.specs.Records.{Handled, Records}
-use Rattle.format.specs.WellFormed.{Lent}
 
 -- id, size, map
 abbrev pub TypeShown : Type 0
@@ -46,21 +45,21 @@ pub record Content : Type 0 where
 abbrev pub numbersOf : Header → List ℤ
 numbersOf h = h .«stack_extent» ∷ h .«code_size» ∷ h .«data_size» ∷ h .«type_size» ∷ h .«export_size» ∷ h .«entry_pc» ∷ h .«entry_type» ∷ []
 
-module _ (l : Lent) where
+module _ (file : List ℕ) where
   abbrev pub typeShown : TypeDescriptor → TypeShown
-  typeShown t = (t .id, t .size, shown (l .file) (t .map))
+  typeShown t = (t .id, t .size, shown file (t .map))
 
   abbrev pub itemShown : DataItem → ItemShown
-  itemShown d = (d .kind, d .offset, d .count, shown (l .file) (d .value))
+  itemShown d = (d .kind, d .offset, d .count, shown file (d .value))
 
   abbrev pub exportShown : ExportEntry → ExportShown
-  exportShown e = (e .pc, e .frame, e .signature, shown (l .file) (e .name))
+  exportShown e = (e .pc, e .frame, e .signature, shown file (e .name))
 
   abbrev pub functionShown : ImportEntry → FunctionShown
-  functionShown f = (f .signature, shown (l .file) (f .name))
+  functionShown f = (f .signature, shown file (f .name))
 
   abbrev pub caseShown : ExceptionCase → CaseShown
-  caseShown c = (shown (l .file) (c .name), c .pc)
+  caseShown c = (shown file (c .name), c .pc)
 
   abbrev pub handlerShown : Handled → HandlerShown
   handlerShown (h, cases) = (h .offset ∷ h .begin ∷ h .end ∷ h .descriptor ∷ [], map caseShown cases)
@@ -72,7 +71,7 @@ module _ (l : Lent) where
     code = r .code;
     types = map typeShown (r .types);
     items = map itemShown (r .items);
-    name = shown (l .file) (r .name);
+    name = shown file (r .name);
     exports = map exportShown (r .exports);
     imports = map (map functionShown) (r .imports);
     handlers = map handlerShown (r .handlers);

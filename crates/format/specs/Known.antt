@@ -10,7 +10,7 @@ use Rattle.format.specs.Types.{LoadAnswer, WriteAnswer}
 use Rattle.format.specs.declared.module.LoadAnswer.the-variants.{Loaded, Refused}
 use Rattle.format.specs.declared.module.WriteAnswer.the-variants as W
 use Rattle.format.specs.Reading.{Read, found, short, front}
-use Rattle.format.specs.Operands.{operandAt, encodeOperand, shown}
+use Rattle.format.specs.Operands.{operandAt, encodeOperand, shown, allSame, sameBytes}
 use Rattle.bits.specs.Bits.{sameZ}
 use Rattle.format.specs.Run.{runLoad, runWrite}
 
@@ -18,16 +18,6 @@ use Rattle.format.specs.Run.{runLoad, runWrite}
 data Row : Type 0 where
   number : List ℕ → ℤ → List ℕ → Row
   module-file : List ℕ → ℕ → List ℤ → List ℕ → List ℕ → Row
-
-allSame : {A : Type 0} → (A → A → Bool) → List A → List A → Bool
-allSame same [] [] = true
-allSame same [] (y ∷ ys) = false
-allSame same (x ∷ xs) [] = false
-allSame same (x ∷ xs) (y ∷ ys) = same x y && allSame same xs ys
-
-sameBytes : List ℕ → List ℕ → Bool
-unfolding allSame
-sameBytes = allSame eqb
 
 readsAs : Read ℤ → ℤ → ℕ → Bool
 readsAs (found w c) v n = sameZ w v && eqb (c .at) n
@@ -39,10 +29,10 @@ writesAs (W.Written n, out) bytes = eqb n (length bytes) && sameBytes out bytes
 writesAs (W.Refused r, out) bytes = false
 
 loadsAs : LoadAnswer × List ℤ → List ℕ → ℕ → List ℤ → List ℕ → List ℕ → Bool
-unfolding allSame sameBytes writesAs
+unfolding sameBytes writesAs
 loadsAs (Loaded m used needed, table) file n words name back =
     eqb used n && eqb needed (length words) && allSame sameZ table words && sameBytes (shown file (m .name)) name
-    && writesAs (runWrite (record { beside = m; file = file; words = table }) (map (λ b. 9) back)) back
+    && writesAs (runWrite m file table (map (λ b. 9) back)) back
 loadsAs (Refused r, table) file n words name back = false
 
 right : Row → Bool

@@ -11,5 +11,6 @@ pub mod Load
 pub mod WellFormed
 pub mod Content
 pub mod Writing
+pub mod Walk
 pub mod Run
 pub mod Known

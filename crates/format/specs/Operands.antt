@@ -1,6 +1,6 @@
 -- Operands and fixed fields: what stands at a place of a file, and how it is written.
 use Prim.Native.Nat.{ℕ, zero, suc, _+_, _*_, _/_, _%_, _^_}
-use mathlib.Core.Bool.{Bool, false, cond}
+use mathlib.Core.Bool.{Bool, true, false, cond, _&&_}
 use mathlib.Core.List.{List, [], _∷_}
 use mathlib.Core.Option.{Option, none, some, Option·map}
 use lib.Dec.{leb, ltb, eqb}
@@ -64,6 +64,17 @@ inside file s = within (length file) (s .start) (s .len)
 
 unfoldable pub shown : List ℕ → Span → List ℕ
 shown file s = cond (inside file s) (take (mag (s .len)) (drop (mag (s .start)) file)) []
+
+-- ---- the same bytes
+
+abbrev pub allSame : {A : Type 0} → (A → A → Bool) → List A → List A → Bool
+allSame same [] [] = true
+allSame same [] (y ∷ ys) = false
+allSame same (x ∷ xs) [] = false
+allSame same (x ∷ xs) (y ∷ ys) = same x y && allSame same xs ys
+
+unfoldable pub sameBytes : List ℕ → List ℕ → Bool
+sameBytes = allSame eqb
 
 -- ---- writing: the shortest form. `mag v` is n for n and for -(n + 1), so that `mag v < h` is -h ≤ v < h
 

@@ -6,7 +6,7 @@ use mathlib.Core.Option.{Option, none}
 use lib.Dec.{leb, eqb}
 use lib.IntN.{ℤ, pos, negsuc}
 use lib.ListN.{length}
-use Rattle.format.specs.Types.{Operand, MiddleOperand, Instruction, Refusal, TooLarge, WideOperand, NoFlag, ShortOutput, WriteAnswer}
+use Rattle.format.specs.Types.{Operand, MiddleOperand, Instruction, Module, Refusal, TooLarge, WideOperand, NoFlag, ShortOutput, WriteAnswer}
 use Rattle.format.specs.declared.module.WriteAnswer.the-variants.{Written, Refused}
 use Rattle.format.specs.Reading.{Step, got, refused, Reads, _>>=_, _>>_, give, check, sound}
 use Rattle.format.specs.Operands.{in30bits, encodeOperand, encodeWord}
@@ -15,7 +15,7 @@ use Rattle.format.specs.Sections.{plainMagic}
 use Rattle.format.specs.Words.{flatten, instructionWidth, typeWidth, itemWidth, exportWidth, importWidth, functionWidth, handlerWidth, caseWidth}
 use Rattle.format.specs.Checks.{unless, _then_}
 use Rattle.format.specs.Put.{put}
-use Rattle.format.specs.WellFormed.{Lent, recordsOf}
+use Rattle.format.specs.WellFormed.{recordsOf}
 use Rattle.format.specs.Content.{TypeShown, ItemShown, ExportShown, FunctionShown, CaseShown, HandlerShown, Content, contentOf}
 
 pub data Part : Type 0 where
@@ -72,10 +72,17 @@ functionLine (signature, name) = line 7 functionWidth (raw (encodeWord signature
 abbrev pub importLines : List FunctionShown → List Line
 importLines fs = line 7 importWidth (operand (pos (length fs)) ∷ []) ∷ map functionLine fs
 
+abbrev pub caseLine : CaseShown → Line
+caseLine (name, pc) = line 8 caseWidth (ended name ∷ operand pc ∷ [])
+
+-- the last has a pc only
+abbrev pub lastLine : CaseShown → Line
+lastLine (name, pc) = line 8 caseWidth (operand pc ∷ [])
+
 abbrev pub caseLines : List CaseShown → List Line
 caseLines [] = []
-caseLines (c ∷ []) = line 8 caseWidth (operand (c .1) ∷ []) ∷ []
-caseLines (c ∷ d ∷ cs) = line 8 caseWidth (ended (c .0) ∷ operand (c .1) ∷ []) ∷ caseLines (d ∷ cs)
+caseLines (c ∷ []) = lastLine c ∷ []
+caseLines (c ∷ d ∷ cs) = caseLine c ∷ caseLines (d ∷ cs)
 
 -- the packed count has the cases before the last
 abbrev pub handlerLines : HandlerShown → List Line
@@ -104,8 +111,11 @@ abbrev pub partBytes : Part → List ℕ
 partBytes (operand v) = encodeOperand v
 partBytes (raw bs) = bs
 
+abbrev pub lineBytes : Line → List ℕ
+lineBytes l = flatten partBytes (l .parts)
+
 unfoldable pub encode : Content → List ℕ
-encode m = flatten (λ l. flatten partBytes (l .parts)) (layout m)
+encode m = flatten lineBytes (layout m)
 
 -- ---- what is refused
 
@@ -124,20 +134,21 @@ flagFault r =
     unless (eqb (length (r .imports)) 0 || has 64 (r .header .flags)) (NoFlag 7 (r .header .flags))
     then unless (eqb (length (r .handlers)) 0 || has 32 (r .header .flags)) (NoFlag 8 (r .header .flags))
 
-unfoldable pub bytesOf : Lent → ℕ → Reads ℕ (List ℕ)
-bytesOf l room = do
-  records ← λ w. recordsOf l
-  sound (flagFault records)
-  let content = contentOf l records
-  sound (wideFault 0 (layout content))
-  let bytes = encode content
-  check (leb (length bytes) sizeLimit) TooLarge
-  check (leb (length bytes) room) (ShortOutput (length bytes))
-  give bytes
+module _ (m : Module) (file : List ℕ) (words : List ℤ) where
+  unfoldable pub bytesOf : ℕ → Reads ℕ (List ℕ)
+  bytesOf room = do
+    records ← λ w. recordsOf m file words
+    sound (flagFault records)
+    let content = contentOf file records
+    sound (wideFault 0 (layout content))
+    let bytes = encode content
+    check (leb (length bytes) sizeLimit) TooLarge
+    check (leb (length bytes) room) (ShortOutput (length bytes))
+    give bytes
 
 unfoldable pub written : List ℕ → Step ℕ (List ℕ) → WriteAnswer × List ℕ
 written out (refused r) = (Refused r, out)
 written out (got bytes w) = (Written (length bytes), put 0 bytes out)
 
-unfoldable pub writeOf : Lent → List ℕ → WriteAnswer × List ℕ
-writeOf l out = written out (bytesOf l (length out) 0)
+unfoldable pub writeOf : Module → List ℕ → List ℤ → List ℕ → WriteAnswer × List ℕ
+writeOf m file words out = written out (bytesOf m file words (length out) 0)

@@ -4,3 +4,4 @@ pub mod module;
 pub mod opcode;
 pub mod refusal;
 pub mod types;
+pub mod walk;

@@ -1,13 +1,17 @@
 pub mod Cut
+pub mod Fields
 pub mod Fills
 pub mod Flatten
+pub mod Froms
 pub mod Groups
 pub mod Items
 pub mod Limit
+pub mod Lists
 pub mod Loads
 pub mod Many
 pub mod Moves
 pub mod Names
+pub mod Narrow
 pub mod Needed
 pub mod OperandBack
 pub mod OperandCases
@@ -17,6 +21,7 @@ pub mod Pieces
 pub mod Put
 pub mod Scans
 pub mod Told
+pub mod Truth
 pub mod Types
 pub mod Until
 pub mod Values

@@ -102,7 +102,7 @@ module _ (file : List ℕ) where
 
   -- ---- the combinators
 
-  whole-by : {A : Type 0} (section : ℕ) (p q : Cursor) (a : A) (r : Read A) → whole section p r ≡ got a q → r ≡ found a q
+  pub whole-by : {A : Type 0} (section : ℕ) (p q : Cursor) (a : A) (r : Read A) → whole section p r ≡ got a q → r ≡ found a q
   whole-by section p q a (found b c) e = cc
   whole-by section p q a short e = cc
 

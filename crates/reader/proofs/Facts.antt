@@ -30,6 +30,9 @@ pub less-128 : (b : ℕ) → 64 ≤ b → b < 128 → signed 64 b ≡ pos b -ℤ
 less-128 b m h = rw (le-ltb b 64 m, lt-ltb b 128 h)
 
 -- a number that was read is used by its bits
+abbrev pub NumberIs : Read ℤ → ℤ → Cursor → Type 0
+NumberIs o v next = o ≡ found (toZ w32 (ofZ w32 v)) next
+
 pub number-told : {r : NumberRead} {o : Read ℤ} {v : ℤ} {n : Cursor} → numberRead r ≡ o → r ≡ Got v n → mag v < 2 ^ 31 → o ≡ found (toZ w32 (ofZ w32 v)) n
 number-told {v} e q h = rw (kept v h) (told numberRead e q)
 

@@ -1,18 +1,10 @@
 // A row of a section of any kind: one reader for all, so that one loop scans them and one fills the table.
 pub mod groups;
 
-use decode::code::InstructionRead;
-use decode::code::read_instruction;
-use decode::data::ItemRead;
-use decode::data::read_item;
-use decode::handlers::CaseRead;
-use decode::handlers::read_case;
-use decode::names::ExportRead;
-use decode::names::FunctionRead;
-use decode::names::read_export;
-use decode::names::read_function;
-use decode::types::TypeRead;
-use decode::types::read_type;
+use code::InstructionRead;
+use code::read_instruction;
+use data::ItemRead;
+use data::read_item;
 use format::instruction::Instruction;
 use format::module::DataItem;
 use format::module::ExceptionCase;
@@ -21,6 +13,14 @@ use format::module::ImportEntry;
 use format::refusal::Refusal;
 use format::types::Cursor;
 use format::types::TypeDescriptor;
+use handlers::CaseRead;
+use handlers::read_case;
+use names::ExportRead;
+use names::FunctionRead;
+use names::read_export;
+use names::read_function;
+use types::TypeRead;
+use types::read_type;
 ghost use mathlib.Core.Path.{_≡_};
 ghost use Prim.Native.Nat.{_≤_};
 ghost use lib.ListN.{length};

@@ -1,14 +1,14 @@
 // Sections whose records have no fixed size: data items, import modules with their functions, handlers with their cases.
 use crate::runs::EndRead;
 use crate::runs::scan_rows;
-use decode::data::ItemRead;
-use decode::data::read_item;
-use decode::handlers::HeadRead;
-use decode::handlers::read_head;
-use decode::pieces::CountRead;
-use decode::pieces::read_count;
+use data::ItemRead;
+use data::read_item;
 use format::refusal::Refusal;
 use format::types::Cursor;
+use handlers::HeadRead;
+use handlers::read_head;
+use pieces::CountRead;
+use pieces::read_count;
 use reader::ByteRead;
 use reader::NumberRead;
 use reader::read_byte;
@@ -23,7 +23,7 @@ ghost use lib.ListN.{length};
 ghost use Rattle.format.specs.Reading.{many, tally};
 ghost use Rattle.format.specs.Records.{sizeLimit};
 ghost use Rattle.format.specs.Sections.{itemsAt, closing};
-ghost use Rattle.decode.specs.View.{countRead};
+ghost use Rattle.pieces.specs.View.{countRead};
 ghost use Rattle.rows.specs.Groups.{groupAt, groupWeight, flaggedAt};
 ghost use Rattle.scan.specs.Sums.{closedRead, sectionRead, one, weighed, summed};
 

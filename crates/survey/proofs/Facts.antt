@@ -12,9 +12,9 @@ use Rattle.laws.proofs.Groups.{counted-renamed}
 use Rattle.laws.proofs.Many.{many-length, scanned, stopped}
 use Rattle.laws.proofs.Scans.{renamed, all-renamed, tallied, untallied, total-ones}
 use Rattle.laws.proofs.Told.{told}
-use Rattle.decode.specs.declared.pieces.CountRead.{CountRead}
-use Rattle.decode.specs.declared.pieces.CountRead.the-variants as CountRead-is
-use Rattle.decode.specs.View.{countRead}
+use Rattle.pieces.specs.declared.CountRead.{CountRead}
+use Rattle.pieces.specs.declared.CountRead.the-variants as CountRead-is
+use Rattle.pieces.specs.View.{countRead}
 use Rattle.rows.specs.declared.Row.{Row}
 use Rattle.survey.specs.Survey.{oneRow, Ran}
 

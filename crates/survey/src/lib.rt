@@ -1,15 +1,15 @@
 // The first pass over the whole file, in three parts: where each section stands, how many records it has, how many words they need.
-use decode::header::HeaderRead;
-use decode::header::read_header;
-use decode::names::read_named;
-use decode::pieces::CountRead;
-use decode::pieces::SpanStep;
-use decode::pieces::counted;
 use format::module::PlacedHeader;
 use format::refusal::Refusal;
 use format::types::Cursor;
 use format::types::Placed;
 use format::types::Span;
+use header::HeaderRead;
+use header::read_header;
+use names::read_named;
+use pieces::CountRead;
+use pieces::SpanStep;
+use pieces::counted;
 use rows::Kind;
 use rows::groups::Group;
 use scan::runs::EndRead;
@@ -23,7 +23,7 @@ ghost use lib.ListN.{length};
 ghost use Rattle.format.specs.Reading.{tally};
 ghost use Rattle.format.specs.Records.{sizeLimit};
 ghost use Rattle.format.specs.Sections.{countedBy};
-ghost use Rattle.decode.specs.View.{countRead};
+ghost use Rattle.pieces.specs.View.{countRead};
 ghost use Rattle.rows.specs.Rows.{rowAt};
 ghost use Rattle.survey.specs.Survey.{oneRow, FrontIs, FrontSays, MiddleIs, MiddleSays, BackSays};
 

@@ -1,6 +1,9 @@
 use mathlib.Core.Path.{_∙_}
 use Rattle.laws.proofs.Told.{told}
-use Rattle.decode.specs.View.{instructionRead, typeRead, exportRead, functionRead, caseRead}
+use Rattle.code.specs.View.{instructionRead}
+use Rattle.types.specs.View.{typeRead}
+use Rattle.names.specs.View.{exportRead, functionRead}
+use Rattle.handlers.specs.View.{caseRead}
 use borrow.Author.Needs.{needs}
 use Rattle.rows.proofs.read_row.Statement.{statement}
 use Rattle.rows.proofs.read_row.Tie as tie

@@ -1,5 +1,5 @@
 use Rattle.laws.proofs.Told.{told}
-use Rattle.decode.specs.View.{itemRead}
+use Rattle.data.specs.View.{itemRead}
 use borrow.Author.Needs.{needs}
 use Rattle.rows.proofs.read_some_item.Statement.{statement}
 use Rattle.rows.proofs.read_some_item.Tie as tie

@@ -2,7 +2,7 @@ use mathlib.Core.Path.{_≡_, sym}
 use Rattle.format.specs.Reading.{got}
 use Rattle.format.specs.Sections.{counted}
 use Rattle.laws.proofs.Told.{told}
-use Rattle.decode.specs.View.{countRead}
+use Rattle.pieces.specs.View.{countRead}
 use Rattle.scan.specs.Ends.{endRead}
 use Rattle.survey.proofs.Facts.{count-refused, rows-stop, rows-end}
 use borrow.Author.Needs.{needs}

@@ -4,8 +4,8 @@ use Rattle.format.specs.Reading.{got, front}
 use Rattle.format.specs.Sections.{countedBy, headerAt, instructionAt, typeAt}
 use Rattle.laws.proofs.Parsed.{parse-header, parse-code, parse-types}
 use Rattle.laws.proofs.Told.{told}
-use Rattle.decode.specs.declared.header.HeaderRead.{HeaderRead}
-use Rattle.decode.specs.View.{headerRead}
+use Rattle.header.specs.declared.HeaderRead.{HeaderRead}
+use Rattle.header.specs.View.{headerRead}
 use Rattle.rows.specs.declared.Row.the-variants as R
 use Rattle.survey.specs.Survey.{Ran}
 use Rattle.survey.proofs.Facts.{rows-ran, rows-refused}

@@ -5,7 +5,7 @@ use Rattle.format.specs.Sections.{nameIn, itemsAt, exportAt}
 use Rattle.laws.proofs.Parsed.{parse-items, parse-name, parse-exports}
 use Rattle.laws.proofs.Scans.{untallied}
 use Rattle.laws.proofs.Told.{told}
-use Rattle.decode.specs.View.{countRead, spanStep}
+use Rattle.pieces.specs.View.{countRead, spanStep}
 use Rattle.rows.specs.declared.Row.the-variants as R
 use Rattle.scan.specs.Sums.{one}
 use Rattle.survey.specs.Survey.{Ran}

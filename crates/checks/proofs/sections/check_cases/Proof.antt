@@ -7,7 +7,7 @@ use Rattle.format.specs.Sections.{caseAt, casesAt}
 use Rattle.bits.proofs.Signs.{kept}
 use Rattle.laws.proofs.Told.{told}
 use Rattle.laws.proofs.Whole.{not-whole, cases-stop}
-use Rattle.decode.specs.View.{caseRead}
+use Rattle.handlers.specs.View.{caseRead}
 use Rattle.checks.specs.View.{casesChecked}
 use Rattle.checks.proofs.Cases.{casesLeft, cases-all, cases-last, cases-on, cases-whole, cases-bad}
 use Rattle.checks.proofs.Facts.{fails, holds}

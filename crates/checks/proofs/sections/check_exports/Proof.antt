@@ -7,7 +7,7 @@ use Rattle.format.specs.Sections.{exportAt}
 use Rattle.format.specs.Checks.{firstOf, exportFault}
 use Rattle.laws.proofs.Told.{told}
 use Rattle.laws.proofs.Whole.{firstLeft, first-done, first-stop, first-found, first-turn}
-use Rattle.decode.specs.View.{exportRead}
+use Rattle.names.specs.View.{exportRead}
 use Rattle.checks.specs.View.{faultOf}
 use borrow.Author.Needs.{needs}
 use Rattle.checks.proofs.sections.check_exports.Statement.{statement}

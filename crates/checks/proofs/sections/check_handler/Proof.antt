@@ -4,7 +4,7 @@ use denote.Ref.{now}
 use Rattle.format.specs.Reading.{got}
 use Rattle.format.specs.Sections.{headAt, handlerAt}
 use Rattle.laws.proofs.Told.{told}
-use Rattle.decode.specs.View.{headRead}
+use Rattle.handlers.specs.View.{headRead}
 use Rattle.checks.specs.View.{faultOf}
 use Rattle.checks.proofs.Cases.{count-kept, count-range, whole-cases, own-found, own-passed}
 use borrow.Author.Needs.{needs}

@@ -9,7 +9,7 @@ use Rattle.format.specs.Sections.{headAt}
 use Rattle.laws.proofs.Groups.{Cased, head-cases, cases-are}
 use Rattle.laws.proofs.Told.{told}
 use Rattle.laws.proofs.Whole.{not-whole}
-use Rattle.decode.specs.View.{headRead}
+use Rattle.handlers.specs.View.{headRead}
 use Rattle.rows.specs.declared.Kind.the-variants.{Cases}
 use Rattle.fill.specs.Filled.{Rows}
 use Rattle.fill.proofs.Facts.{also, handler-refused, Handling, handling}

@@ -10,7 +10,7 @@ use Rattle.bits.proofs.Signs.{kept}
 use Rattle.laws.proofs.Told.{told}
 use Rattle.laws.proofs.Values.{count-small}
 use Rattle.laws.proofs.Whole.{not-whole}
-use Rattle.decode.specs.View.{countRead}
+use Rattle.pieces.specs.View.{countRead}
 use Rattle.fill.proofs.Facts.{also, import-refused, Imported, imported}
 use borrow.Author.Needs.{needs}
 use Rattle.fill.proofs.groups.fill_import.Statement.{statement}

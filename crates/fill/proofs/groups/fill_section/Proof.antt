@@ -10,8 +10,8 @@ use Rattle.laws.proofs.Parsed.{flag-count}
 use Rattle.laws.proofs.Put.{put-none}
 use Rattle.laws.proofs.Told.{told}
 use Rattle.laws.proofs.Whole.{not-whole}
-use Rattle.decode.specs.declared.pieces.CountRead.{CountRead}
-use Rattle.decode.specs.View.{countRead}
+use Rattle.pieces.specs.declared.CountRead.{CountRead}
+use Rattle.pieces.specs.View.{countRead}
 use Rattle.rows.specs.Groups.{groupAt, sectionOf, bitOf, flagOf, flaggedAt}
 use Rattle.fill.specs.Filled.{listIn}
 use Rattle.fill.proofs.Facts.{section-none, section-whole, section-list}

@@ -12,7 +12,7 @@ use Rattle.format.specs.Checks.{firstOf, handlerFault}
 use Rattle.laws.proofs.Told.{told}
 use Rattle.laws.proofs.Parsed.{flag-not, flag-count}
 use Rattle.laws.proofs.Whole.{not-whole}
-use Rattle.decode.specs.View.{countRead}
+use Rattle.pieces.specs.View.{countRead}
 use Rattle.load.proofs.Facts.{flag-many, flag-said}
 use Rattle.load.proofs.late.check_handler_section.Statement.{statement}
 use Rattle.load.proofs.late.check_handler_section.Tie as tie

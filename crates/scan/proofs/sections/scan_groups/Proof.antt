@@ -5,7 +5,7 @@ use native.Mathlib.Omega.{arith}
 use Rattle.format.specs.Reading.{many, tally}
 use Rattle.laws.proofs.Scans.{plus, plus-zero, plus-plus, tally-done}
 use Rattle.laws.proofs.Told.{told}
-use Rattle.decode.specs.View.{countRead}
+use Rattle.pieces.specs.View.{countRead}
 use Rattle.rows.specs.Groups.{groupAt, groupWeight}
 use Rattle.scan.proofs.Facts.{group-far, groups-turn, groups-stop}
 use borrow.Author.Needs.{needs}

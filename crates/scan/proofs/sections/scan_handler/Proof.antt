@@ -7,7 +7,7 @@ use Rattle.format.specs.Sections.{headAt, handlerAt}
 use Rattle.laws.proofs.Groups.{Cased, head-cases, cases-are}
 use Rattle.laws.proofs.Told.{told}
 use Rattle.reader.specs.View.{numberRead}
-use Rattle.decode.specs.View.{headRead}
+use Rattle.handlers.specs.View.{headRead}
 use Rattle.rows.specs.declared.Kind.the-variants.{Cases}
 use Rattle.scan.specs.declared.runs.EndRead.{EndRead}
 use Rattle.rows.specs.Rows.{rowAt}

@@ -6,7 +6,7 @@ use Rattle.format.specs.Reading.{got}
 use Rattle.format.specs.Sections.{countIn, importAt}
 use Rattle.laws.proofs.Told.{told}
 use Rattle.laws.proofs.Values.{count-small}
-use Rattle.decode.specs.View.{countRead}
+use Rattle.pieces.specs.View.{countRead}
 use Rattle.scan.specs.Ends.{endRead}
 use Rattle.scan.specs.Sums.{weighed}
 use Rattle.scan.proofs.Facts.{import-stops, import-ends}

@@ -11,7 +11,7 @@ use Rattle.laws.proofs.Items.{items-turn, items-end, items-stop}
 use Rattle.laws.proofs.Moves.{item-far}
 use Rattle.laws.proofs.Scans.{plus, plus-zero, plus-plus, tally-before}
 use Rattle.laws.proofs.Told.{told}
-use Rattle.decode.specs.View.{itemRead}
+use Rattle.data.specs.View.{itemRead}
 use Rattle.scan.specs.Sums.{one}
 use borrow.Author.Needs.{needs}
 use Rattle.scan.proofs.sections.scan_items.Statement.{statement}

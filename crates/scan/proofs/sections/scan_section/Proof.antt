@@ -7,8 +7,8 @@ use Rattle.format.specs.Reading.{andThen, give, many, tally}
 use Rattle.format.specs.Sections.{countIn}
 use Rattle.bits.proofs.Signs.{kept}
 use Rattle.laws.proofs.Told.{told}
-use Rattle.decode.specs.declared.pieces.CountRead.{CountRead}
-use Rattle.decode.specs.View.{countRead}
+use Rattle.pieces.specs.declared.CountRead.{CountRead}
+use Rattle.pieces.specs.View.{countRead}
 use Rattle.scan.specs.declared.sections.ClosedRead.{ClosedRead}
 use Rattle.rows.specs.Groups.{groupAt, groupWeight, sectionOf, flagOf, flaggedAt}
 use Rattle.scan.specs.Sums.{summed, closedRead}

@@ -1,0 +1,15 @@
+use Rattle.laws.proofs.Told.{told}
+use Rattle.reader.specs.View.{spanRead}
+use borrow.Author.Needs.{needs}
+use Rattle.data.proofs.pass_bytes.Statement.{statement}
+use Rattle.data.proofs.pass_bytes.Tie as tie
+
+returns : tie.Need-returns
+returns c = rw (told spanRead (c .before .before .read-span .ensures) (c .enum-told .given .1))
+
+returns-2 : tie.Need-returns-2
+returns-2 c = rw (told spanRead (c .before .before .before .read-span .ensures) (c .before .next .given .1))
+
+pub pass-bytes-spec : {M : Type 1} → statement M
+pass-bytes-spec =
+    tie.close (tie.spec (λ c κs. search needs) (λ c. search needs) (λ c. search needs) returns returns-2)

@@ -1,0 +1,31 @@
+-- The data readers' answers, as steps of the definitions: value and next place, or the refusal.
+use mathlib.Core.Option.{Option, none, some}
+use lib.IntN.{ℤ}
+use Rattle.format.specs.declared.types.Cursor.{Cursor}
+use Rattle.format.specs.declared.module.DataItem.{DataItem}
+use Rattle.format.specs.Reading.{Step, got, refused}
+use Rattle.data.specs.declared.OffsetRead.{OffsetRead}
+use Rattle.data.specs.declared.OffsetRead.the-variants as OffsetRead-is
+use Rattle.data.specs.declared.ItemStep.{ItemStep}
+use Rattle.data.specs.declared.ItemStep.the-variants as ItemStep-is
+use Rattle.data.specs.declared.PassRead.{PassRead}
+use Rattle.data.specs.declared.PassRead.the-variants as PassRead-is
+use Rattle.data.specs.declared.ItemRead.{ItemRead}
+use Rattle.data.specs.declared.ItemRead.the-variants as ItemRead-is
+
+abbrev pub offsetRead : OffsetRead → Step Cursor ℤ
+offsetRead (OffsetRead-is.Got v next) = got v next
+offsetRead (OffsetRead-is.Refused why) = refused why
+
+abbrev pub itemStep : ItemStep → Step Cursor DataItem
+itemStep (ItemStep-is.Got v next) = got v next
+itemStep (ItemStep-is.Refused why) = refused why
+
+abbrev pub passRead : PassRead → Step Cursor (Unit {0})
+passRead (PassRead-is.Got next) = got tt next
+passRead (PassRead-is.Refused why) = refused why
+
+abbrev pub itemRead : ItemRead → Step Cursor (Option DataItem)
+itemRead (ItemRead-is.Got item next) = got (some item) next
+itemRead (ItemRead-is.End next) = got none next
+itemRead (ItemRead-is.Refused why) = refused why

@@ -1,0 +1,9 @@
+pub mod Back
+pub mod Records
+pub mod Instructions
+pub mod Data
+pub mod Header
+pub mod Parts
+pub mod Written
+pub mod Tables
+pub mod WellFormed

@@ -1,0 +1,10 @@
+-- The type reader's answer, as a step of the definitions: value and next place, or the refusal.
+use Rattle.format.specs.declared.types.Cursor.{Cursor}
+use Rattle.format.specs.declared.types.TypeDescriptor.{TypeDescriptor}
+use Rattle.format.specs.Reading.{Step, got, refused}
+use Rattle.types.specs.declared.TypeRead.{TypeRead}
+use Rattle.types.specs.declared.TypeRead.the-variants as TypeRead-is
+
+abbrev pub typeRead : TypeRead → Step Cursor TypeDescriptor
+typeRead (TypeRead-is.Got v next) = got v next
+typeRead (TypeRead-is.Refused why) = refused why

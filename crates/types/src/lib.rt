@@ -1,0 +1,57 @@
+// 3, types.
+use format::refusal::Refusal;
+use format::types::Cursor;
+use format::types::TypeDescriptor;
+use pieces::SpanStep;
+use pieces::read_sized;
+use reader::NumberRead;
+use reader::read_operand;
+use reader::spans::count_pointers;
+ghost use mathlib.Core.Path.{_≡_};
+ghost use Prim.Native.Nat.{_≤_};
+ghost use lib.ListN.{length};
+ghost use Rattle.format.specs.Records.{sizeLimit};
+ghost use Rattle.format.specs.Sections.{typeAt};
+ghost use Rattle.types.specs.View.{typeRead};
+
+pub enum TypeRead {
+    Got {
+        descriptor: TypeDescriptor,
+        next: Cursor,
+    },
+    Refused(Refusal),
+}
+
+pub fn read_type(file: &[u8], c: Cursor) -> TypeRead
+    requires { ⌜ length (now file) ≤ sizeLimit ⌝ }
+    ensures { λ r. ⌜ typeRead r ≡ typeAt (now (file .entry)) c ⌝ }
+{
+    let NumberRead::Got { value: id, next: d } = read_operand(file, c) else {
+        return TypeRead::Refused(Refusal::Ended {
+            section: 3,
+            place: c.at,
+        });
+    };
+    let NumberRead::Got {
+        value: size,
+        next: e,
+    } = read_operand(file, d)
+    else {
+        return TypeRead::Refused(Refusal::Ended {
+            section: 3,
+            place: d.at,
+        });
+    };
+    match read_sized(file, 3, e) {
+        SpanStep::Refused(why) => TypeRead::Refused(why),
+        SpanStep::Got { span: map, next } => TypeRead::Got {
+            descriptor: TypeDescriptor {
+                id,
+                size,
+                map,
+                pointers: count_pointers(file, map) as i32,
+            },
+            next,
+        },
+    }
+}

@@ -1,0 +1,4 @@
+pub mod Had
+pub mod Rules
+pub mod Unbroken
+pub mod Same
