@@ -20,7 +20,7 @@ use Rattle.format.specs.declared.walk.WalkAnswer.the-variants.{Walked, Refused}
 use Rattle.format.specs.Reading.{got}
 use Rattle.format.specs.Operands.{shown}
 use Rattle.format.specs.Records.{Handled, Records, moduleOf}
-use Rattle.format.specs.Checks.{unless, _then_, firstOf, below, minusOne, caseFault, headerFault, exportFault, rangeFault, ownFault, handlerFault, faultIn}
+use Rattle.format.specs.Checks.{unless, firstOf, below, minusOne, caseFault, headerFault, exportFault, rangeFault, ownFault, handlerFault, faultIn}
 use Rattle.format.specs.Load.{loadOf}
 use Rattle.format.specs.WellFormed.{recordsOf}
 use Rattle.format.specs.Walk.{Event, entry, export, next, raise, frameOf, handlerFrame, goTo, entered, exported, advanced, covers, takes, caught, firstCase, firstHandler, fromThere, exportOr, moved, walkOf, stateOf, answers, after}

@@ -1,0 +1,3 @@
+// What is written for a row: whether an operand is outside 30 bits, and how long it is.
+pub mod length;
+pub mod wide;

@@ -1,0 +1,4 @@
+pub mod Heads
+pub mod Layout
+pub mod Measured
+pub mod Rows

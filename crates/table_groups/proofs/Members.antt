@@ -1,0 +1,84 @@
+-- Where an import module ends by its functions, and a handler by its cases.
+-- Assumes nothing.
+use Prim.Native.Nat.{ℕ, _-_}
+use mathlib.Core.Path.{_≡_, refl, sym, ap, _∙_}
+use mathlib.Core.Bool.{true}
+use mathlib.Core.List.{List}
+use native.Mathlib.Omega.{arith}
+use borrow.Author.Tests.{leb-true}
+use lib.Dec.{leb}
+use lib.IntN.{ℤ, pos, negsuc}
+use Rattle.format.specs.declared.module.Handler.{Handler}
+use Rattle.format.specs.declared.module.ExceptionCase.{ExceptionCase}
+use Rattle.format.specs.declared.refusal.Refusal.{Refusal}
+use Rattle.format.specs.Reading.{Step, got, refused, andThen, give, many, ends, stops, endOf}
+use Rattle.format.specs.WellFormed.{functionCountFrom, functionFrom, importFrom, handlerFrom, caseFrom, lastFrom, casesFrom, handledFrom}
+use Rattle.laws.proofs.Groups.{Cased}
+use Rattle.laws.proofs.Many.{stopped}
+use Rattle.laws.proofs.Scans.{scan-renamed}
+use Rattle.laws.proofs.Truth.{and-both}
+use Rattle.rows.specs.declared.Kind.the-variants as K
+use Rattle.rows.specs.declared.Row.the-variants as R
+use Rattle.rows.specs.declared.groups.Group.the-variants as G
+use Rattle.table_pieces.proofs.Tested.{passed-test}
+use Rattle.table_handlers.specs.Tests.{caseCountRight}
+use Rattle.table_handlers.proofs.Handlers.{handlers}
+use Rattle.table_rows.specs.Rows.{rowFrom}
+use Rattle.table_groups.specs.Groups.{groupFrom}
+
+-- what ended was read
+pub ended : {P A : Type 0} (s : Step P A) {q : P} → endOf s ≡ ends q → (x : A) × (s ≡ got x q)
+unfolding endOf
+ended (got x p) e = (x, ap (got x) (cc))
+ended (refused r) e = let z : _≡_ {A = ℕ} 0 1 = cc in absurd (omega arith)
+
+end-named : {P A B : Type 0} (name : A → B) (s : Step P A) → endOf (andThen s (λ x. give (name x))) ≡ endOf s
+unfolding endOf
+end-named name (got x q) = refl
+end-named name (refused r) = refl
+
+few-cases : (z : ℤ) → caseCountRight z ≡ true → Cased z
+few-cases (pos n) e =
+    let t = and-both (leb 1 n) (leb n 65536) e in
+    record { number = n; is = refl; least = leb-true 1 n (t .0); most = leb-true n 65536 (t .1) }
+few-cases (negsuc n) e = let z : _≡_ {A = ℕ} 0 1 = cc in absurd (omega arith)
+
+module _ (file : List ℕ) (words : List ℤ) (w : ℕ) where
+  -- ---- an import module
+
+  pub import-bad : {why : Refusal} → functionCountFrom words w ≡ refused why → endOf (groupFrom file words G.Imports w) ≡ stops why
+  unfolding importFrom endOf
+  import-bad e = rw e
+
+  pub import-rows : {n q : ℕ} → functionCountFrom words w ≡ got n q → endOf (groupFrom file words G.Imports w) ≡ endOf (many (rowFrom file words K.Functions) n q)
+  unfolding importFrom
+  import-rows {n} {q} e = rw e (end-named _ (many (functionFrom file words) n q) ∙ sym (scan-renamed R.Function (functionFrom file words) n q))
+
+  -- ---- a handler
+
+  pub handler-bad : {why : Refusal} → handlerFrom words w ≡ refused why → endOf (groupFrom file words G.Handlers w) ≡ stops why
+  unfolding handledFrom endOf
+  handler-bad e = rw e
+
+  module _ {h : Handler} {d : ℕ} (head : handlerFrom words w ≡ got h d) where
+    pub handler-cased : Cased (h .cases)
+    handler-cased = few-cases (h .cases) (passed-test (handlers words) w head)
+
+    module _ (k : Cased (h .cases)) where
+      pub cases-stop : {why : Refusal} → endOf (many (rowFrom file words K.Cases) (k .number - 1) d) ≡ stops why → endOf (groupFrom file words G.Handlers w) ≡ stops why
+      unfolding handledFrom casesFrom endOf
+      cases-stop e =
+          let n = k .number - 1 in
+          rw (head, k .is, stopped (many (caseFrom file words) n d) (sym (scan-renamed R.Case (caseFrom file words) n d) ∙ e))
+
+      module _ {q : ℕ} (rows : endOf (many (rowFrom file words K.Cases) (k .number - 1) d) ≡ ends q) where
+        cases-all : (cs : List ExceptionCase) × (many (caseFrom file words) (k .number - 1) d ≡ got cs q)
+        cases-all = let n = k .number - 1 in ended (many (caseFrom file words) n d) (sym (scan-renamed R.Case (caseFrom file words) n d) ∙ rows)
+
+        pub last-bad : {why : Refusal} → lastFrom words q ≡ refused why → endOf (groupFrom file words G.Handlers w) ≡ stops why
+        unfolding handledFrom casesFrom endOf
+        last-bad e = rw (head, k .is, cases-all .1, e)
+
+        pub handler-ends : {last : ExceptionCase} {p : ℕ} → lastFrom words q ≡ got last p → endOf (groupFrom file words G.Handlers w) ≡ ends p
+        unfolding handledFrom casesFrom endOf
+        handler-ends e = rw (head, k .is, cases-all .1, e)

@@ -1,0 +1,43 @@
+use Prim.Native.Nat.{_+_, _≤_, min}
+use native.Mathlib.Omega.{arith}
+use denote.Ref.{now}
+use lib.ListN.{length}
+use Rattle.format.specs.Records.{wordLimit}
+use Rattle.table_pieces.proofs.Tested.{recorded, fits, no-room, passes, fails}
+use Rattle.table_handlers.proofs.Handlers.{lasts}
+use borrow.Author.Needs.{needs}
+use Rattle.table_handlers.proofs.last_from.Statement.{statement}
+use Rattle.table_handlers.proofs.last_from.Tie as tie
+
+returns : tie.Need-returns
+returns c =
+    let a = c .before .before .args in
+    no-room (recorded (lasts (now (a .words)))) (a .w) (c .before .has-room .ensures) (c .if1 .taken)
+
+-- it lies inside the words
+room : (c : tie.Else1) → let a = c .before .before .args in a .w + 3 ≤ min (length (now (a .words))) wordLimit
+room c =
+    let a = c .before .before .args in
+    fits (recorded (lasts (now (a .words)))) (a .w) (c .before .has-room .ensures) (c .if1 .left)
+
+case-there-requires : tie.Need-case-there-requires
+case-there-requires c κs = omega (arith, room c)
+
+returns-2 : tie.Need-returns-2
+returns-2 c =
+    let t = c .before in
+    let s = t .before in
+    let a = s .before .before .before .args in
+    passes (lasts (now (a .words))) (a .w) (room (s .before)) (s .case-there .ensures) (t .same-span .ensures) (c .if2 .taken)
+
+returns-3 : tie.Need-returns-3
+returns-3 c =
+    let t = c .before in
+    let s = t .before in
+    let a = s .before .before .before .args in
+    fails (lasts (now (a .words))) (a .w) (room (s .before)) (s .case-there .ensures) (t .same-span .ensures) (c .if2 .left)
+
+pub last-from-spec : {M : Type 1} → statement M
+last-from-spec =
+    tie.close
+    (tie.spec (λ c κs. search needs) returns case-there-requires (λ c κs. search needs) returns-2 returns-3)
