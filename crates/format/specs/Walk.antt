@@ -78,15 +78,15 @@ unfoldable pub takes : List ℕ → List ℕ → Bool
 takes name raised = eqb (length name) 0 || sameBytes name raised
 
 module _ (codeSize typeSize : ℕ) where
-  -- a case, last or not, of a handler with the type t
-  unfoldable pub caught : ℤ → Bool → ExceptionCase → State
-  caught t last c = cond (last && minusOne (c .pc)) (Stopped NoCatchAll) (goTo codeSize typeSize (c .pc) (handlerFrame t))
+  -- at the pc of a case, last or not, of a handler with the type t
+  unfoldable pub caught : ℤ → Bool → ℤ → State
+  caught t last pc = cond (last && minusOne pc) (Stopped NoCatchAll) (goTo codeSize typeSize pc (handlerFrame t))
 
   module _ (file raised : List ℕ) where
     -- the first case that takes the name; the last is nameless in well-formed tables, so that there is one
     unfoldable pub firstCase : ℤ → List ExceptionCase → State
     firstCase t [] = Broken
-    firstCase t (c ∷ cs) = cond (takes (shown file (c .name)) raised) (caught t (eqb (length cs) 0) c) (firstCase t cs)
+    firstCase t (c ∷ cs) = cond (takes (shown file (c .name)) raised) (caught t (eqb (length cs) 0) (c .pc)) (firstCase t cs)
 
     -- the first handler that covers the pc, which alone decides
     unfoldable pub firstHandler : ℤ → List Handled → State

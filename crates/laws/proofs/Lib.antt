@@ -26,3 +26,5 @@ pub mod Types
 pub mod Until
 pub mod Values
 pub mod Whole
+pub mod Walks
+pub mod Writes

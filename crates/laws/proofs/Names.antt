@@ -8,7 +8,7 @@ use mathlib.Core.Option.{Option, none, some, Option·map}
 use native.Mathlib.Omega.{arith}
 use native.Mathlib.Nat.{add-zero}
 use native.Mathlib.Numerals.{add-one}
-use borrow.Author.Tests.{ne-eqb}
+use borrow.Author.Tests.{le-leb, ne-eqb}
 use lib.Count.{ones}
 use lib.Dec.{leb}
 use lib.IntN.{ℤ, pos, negsuc}
@@ -18,6 +18,10 @@ use lib.Seq.{drop-cons}
 use Rattle.laws.proofs.Types.{Span}
 use Rattle.format.specs.Operands.{zeroIn, shown, within, inside}
 use Rattle.format.specs.Records.{onesOf}
+use Rattle.format.specs.Sections.{nowhere}
+use Rattle.format.specs.WellFormed.{sameSpan}
+use Rattle.bits.specs.Bits.{sameZ}
+use Rattle.laws.proofs.Truth.{and-both, same-number}
 
 -- how far the zero byte is, k bytes further back
 unfoldable pub further : ℕ → Option ℕ → Option ℕ
@@ -97,3 +101,14 @@ module _ (file : List ℕ) (s : Span) where
       shorter : (t : Bool) → length (cond t (take (mag (s .len)) (drop (mag (s .start)) file)) []) ≤ mag (s .len)
       shorter true = omega (arith, length-take (mag (s .len)) (drop (mag (s .start)) file))
       shorter false = omega arith
+
+-- ---- the span of what is not read shows nothing
+
+pub shown-nowhere : (file : List ℕ) → shown file nowhere ≡ []
+unfolding shown
+shown-nowhere file = rw (le-leb 0 (length file) (omega arith))
+
+pub shows-nothing : (file : List ℕ) (s : Span) → sameSpan s nowhere ≡ true → shown file s ≡ []
+shows-nothing file s e =
+    let same = and-both (sameZ (s .start) (pos 0)) (sameZ (s .len) (pos 0)) e in
+    rw (same-number (s .start) (pos 0) (same .0), same-number (s .len) (pos 0) (same .1)) (shown-nowhere file)

@@ -1,51 +1,17 @@
 // Runs a table of files through load, each with a run of so many words lent, all of them 7: what it answers, and what the words hold.
-use bits::magnitude;
 use format::module::LoadAnswer;
 use format::module::Module;
-use format::refusal::Refusal;
-use format::refusal::numbers_of;
 use load::load;
+use printing::OUT;
+use printing::print_number;
+use printing::print_refusal;
 ghost use Prim.Native.Nat.{_≤_};
-
-const OUT: i32 = 1;
-
-// A space, and a number in decimal.
-fn print_number(v: i32) {
-    if v < 0 {
-        io::write_all(OUT, b" -");
-        io::print_decimal(OUT, magnitude(v) as u64 + 1);
-    } else {
-        io::write_all(OUT, b" ");
-        io::print_decimal(OUT, magnitude(v) as u64);
-    }
-}
-
-fn print_detail(v: i64) {
-    if v < 0 {
-        io::write_all(OUT, b" -");
-        io::print_decimal(OUT, (-1 - v) as u64 + 1);
-    } else {
-        io::write_all(OUT, b" ");
-        io::print_decimal(OUT, v as u64);
-    }
-}
 
 // As many words as the run has, at most.
 fn at_most_all(lent: usize) -> usize
     ensures { λ r. ⌜ r ≤ 96 ⌝ }
 {
     if 96 < lent { 96 } else { lent }
-}
-
-fn print_refusal(why: Refusal) {
-    let n = numbers_of(why);
-    io::write_all(OUT, b"refused ");
-    io::print_decimal(OUT, n.number as u64);
-    io::write_all(OUT, b" ");
-    io::print_decimal(OUT, n.section as u64);
-    io::write_all(OUT, b" ");
-    io::print_decimal(OUT, n.place as u64);
-    print_detail(n.detail);
 }
 
 fn print_words(words: &[i32], n: usize) {

@@ -2,28 +2,26 @@
 -- that are looked at.
 -- Assumes nothing.
 use Prim.Native.Nat.{ℕ, _+_, _≤_}
-use mathlib.Core.Path.{_≡_, refl, sym, ap, _∙_}
+use mathlib.Core.Path.{_≡_, sym, ap, _∙_}
 use mathlib.Core.Bool.{true, false, cond}
 use mathlib.Core.List.{List, [], _∷_, _++_}
 use mathlib.Core.Logic.{⊎-elim}
-use mathlib.Core.Option.{Option, none, some}
 use native.Mathlib.Omega.{arith}
-use lib.IntN.{ℤ, pos, negsuc}
+use lib.IntN.{ℤ, pos}
 use Rattle.format.specs.declared.module.Module.{Module}
 use Rattle.format.specs.Reading.{Reads, many, reached, Whole}
 use Rattle.format.specs.Records.{wordLimit}
-use Rattle.format.specs.WellFormed.{withSome, numbered, instructionFrom, typeFrom, itemFrom, exportFrom, importFrom, handledFrom}
+use Rattle.format.specs.WellFormed.{instructionFrom, typeFrom, itemFrom, exportFrom, importFrom, handledFrom}
 use Rattle.rows.specs.declared.Kind.{Kind}
 use Rattle.rows.specs.declared.Kind.the-variants as K
 use Rattle.rows.specs.declared.Row.the-variants as R
 use Rattle.rows.specs.declared.groups.Group.{Group}
 use Rattle.rows.specs.declared.groups.Group.the-variants as G
 use Rattle.rows.specs.Groups.{imports, handled, flagOf, sectionOf}
-use Rattle.tables.specs.declared.Counts.{Counts}
 use Rattle.tables.specs.declared.Places.{Places}
 use Rattle.table_rows.specs.Rows.{rowFrom}
 use Rattle.table_groups.specs.Groups.{groupFrom}
-use Rattle.tables.specs.Laid.{threeOf, countsOf, GoodAt}
+use Rattle.tables.specs.Laid.{GoodAt}
 use Rattle.tables.proofs.Stages.{ran-whole, ran-reached}
 use Rattle.format.specs.Writing.{zeroByte}
 use Rattle.laws.proofs.Many.{many-length}
@@ -32,30 +30,6 @@ use Rattle.laws.proofs.Whole.{whole-many}
 use Rattle.measure.specs.Heads.{oneLine}
 use Rattle.measure.specs.Layout.{allGroups, groupsAt, SectionIs}
 use Rattle.measure.proofs.Ends.{rows-end, groups-end}
-
--- ---- the counts
-
-counted : {A : Type 0} (v : ℤ) (k : ℕ → Option A) {a : A} → withSome (numbered some v) k ≡ some a → (n : ℕ) × (v ≡ pos n) × (k n ≡ some a)
-counted (pos n) k e = (n, refl, e)
-counted (negsuc n) k e = let z : _≡_ {A = ℕ} 0 1 = cc in absurd (omega arith)
-
-three-told : (a b c : ℤ) {t : ℕ × ℕ × ℕ} → threeOf a b c ≡ some t → (b ≡ pos (t .1)) × (c ≡ pos (t .2))
-three-told a b c e =
-    let x = counted a _ e in
-    let y = counted b _ (x .2) in
-    let z = counted c _ (y .2) in
-    (y .1 ∙ cc, z .1 ∙ cc)
-
-both-some : {A B : Type 0} (o : Option A) (k : A → Option B) {b : B} → withSome o k ≡ some b → (a : A) × (o ≡ some a) × (k a ≡ some b)
-both-some (some a) k e = (a, refl, e)
-both-some none k e = let z : _≡_ {A = ℕ} 0 1 = cc in absurd (omega arith)
-
-pub counts-told : (m : Module) {c : Counts} → countsOf m ≡ some c → (m .imports ≡ pos (c .imports)) × (m .handlers ≡ pos (c .handlers))
-counts-told m e =
-    let a = both-some (threeOf (m .header .«code_size») (m .header .«type_size») (m .header .«export_size»)) _ e in
-    let b = both-some (threeOf (m .items) (m .imports) (m .handlers)) _ (a .2) in
-    let t = three-told (m .items) (m .imports) (m .handlers) (b .1) in
-    (t .0 ∙ cc, t .1 ∙ cc)
 
 -- ---- the sections
 

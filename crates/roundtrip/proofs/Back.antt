@@ -11,7 +11,7 @@ use lib.ListN.{length, length-append}
 use Rattle.laws.proofs.Types.{Cursor}
 use Rattle.format.specs.Reading.{past, here, give, many, _>>=_}
 use Rattle.format.specs.Operands.{spanOf, zeroIn, shown, encodeOperand, encodeWord}
-use Rattle.format.specs.Sections.{nowhere, Reading, byteIn, operandIn, wordIn, nameIn, spanIn, placedIn, fourIn, countIn, sizedIn, closing}
+use Rattle.format.specs.Sections.{Reading, byteIn, operandIn, wordIn, nameIn, spanIn, placedIn, fourIn, countIn, sizedIn, closing}
 use Rattle.format.specs.Words.{flatten}
 use Rattle.laws.proofs.Fields.{fourValues}
 use Rattle.laws.proofs.Many.{All, ReadBack, many-read-back}
@@ -41,10 +41,6 @@ module _ {file : List ℕ} {c : Cursor} {bs : List ℕ} (s : Stands file c bs) w
 
   pub stands-shown : shown file (spanOf (c .at) (length bs)) ≡ bs
   stands-shown = rw (s .whole) (shown-back (s .ahead) bs (s .behind) (c .at) (s .place))
-
--- the span of what is not read shows nothing
-pub shown-nowhere : (file : List ℕ) → shown file nowhere ≡ []
-shown-nowhere file = shown-back [] [] file 0 refl
 
 -- ---- a reader reads bs, wherever they stand, as something that shows r
 

@@ -26,12 +26,12 @@ use Rattle.laws.proofs.Flatten.{flatten-append}
 use Rattle.laws.proofs.Items.{items-turn, items-end}
 use Rattle.laws.proofs.Lists.{no-elements, all-first, all-rest}
 use Rattle.laws.proofs.Many.{All}
-use Rattle.laws.proofs.Names.{shown-part}
+use Rattle.laws.proofs.Names.{shown-part, shown-nowhere}
 use Rattle.laws.proofs.Narrow.{Fits30, NarrowPart, Narrow}
 use Rattle.laws.proofs.OperandCases.{span-whole}
 use Rattle.laws.proofs.Passed.{passWords, words-whole}
 use Rattle.laws.proofs.Truth.{and-both}
-use Rattle.roundtrip.proofs.Back.{Stands, stands-first, stands-rest, stands-inside, stands-shown, shown-nowhere, Back, itself, back-give, back-then, back-last, back-here, back-byte, back-placed, back-count}
+use Rattle.roundtrip.proofs.Back.{Stands, stands-first, stands-rest, stands-inside, stands-shown, Back, itself, back-give, back-then, back-last, back-here, back-byte, back-placed, back-count}
 
 -- one element of kinds 5 to 7, and no offset of kind 7
 abbrev pub Fixed : Shape → ℕ → ℕ → Type 0

@@ -17,9 +17,10 @@ use Rattle.format.specs.Writing.{operand, typeLine, exportLine, functionLine, i
 use Rattle.laws.proofs.Flatten.{flatten-append}
 use Rattle.laws.proofs.Lists.{all-first, all-rest, of-map, all-both}
 use Rattle.laws.proofs.Many.{All}
+use Rattle.laws.proofs.Names.{shown-nowhere}
 use Rattle.laws.proofs.Narrow.{Fits30, Fits32, NarrowPart, Narrow}
 use Rattle.laws.proofs.Scans.{flatten-renamed}
-use Rattle.roundtrip.proofs.Back.{shown-nowhere, Back, back-give, back-then, back-last, back-operand, back-word, back-name, back-four, back-count, back-sized, back-many}
+use Rattle.roundtrip.proofs.Back.{Back, back-give, back-then, back-last, back-operand, back-word, back-name, back-four, back-count, back-sized, back-many}
 
 case-lines : (cs : List CaseShown) (last : CaseShown) → caseLines (cs ++ last ∷ []) ≡ map caseLine cs ++ lastLine last ∷ []
 case-lines [] last = refl

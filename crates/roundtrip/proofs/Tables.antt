@@ -24,8 +24,8 @@ use Rattle.format.specs.Content.{itemShown, exportShown, functionShown, caseSho
 use Rattle.laws.proofs.Froms.{from-got, only-some}
 use Rattle.laws.proofs.Lists.{all-map}
 use Rattle.laws.proofs.Many.{All, parts-of, many-length, many-all}
+use Rattle.laws.proofs.Names.{shows-nothing}
 use Rattle.laws.proofs.Truth.{and-both, is-none, same-number}
-use Rattle.roundtrip.proofs.Back.{shown-nowhere}
 use Rattle.roundtrip.proofs.Instructions.{OperandSound, MiddleSound, InstructionSound}
 use Rattle.roundtrip.proofs.Data.{ItemSound, made-sound}
 use Rattle.roundtrip.proofs.Records.{Clean, ExportSigned, FunctionSigned, HandlerSound}
@@ -117,8 +117,7 @@ module _ (file : List ℕ) (words : List ℤ) where
   last-empty p q c e =
       let there = caseThere words p in
       let t = only-some (sameSpan (there .name) nowhere) there (says words caseWidth p _ e) in
-      let same = and-both (sameZ (there .name .start) (pos 0)) (sameZ (there .name .len) (pos 0)) (t .0) in
-      rw (← t .1, same-number (there .name .start) (pos 0) (same .0), same-number (there .name .len) (pos 0) (same .1)) (shown-nowhere file)
+      rw (← t .1) (shows-nothing file (there .name) (t .0))
 
   -- what is known of each word is known of a signature
   module _ (Fit : ℤ → Type 0) (fit : (i : ℕ) → Fit (getD words i (pos 0))) where

@@ -2,12 +2,9 @@
 -- Assumes nothing.
 use Prim.Native.Nat.{ℕ, _-_}
 use mathlib.Core.Path.{_≡_, refl, sym, ap, _∙_}
-use mathlib.Core.Bool.{true}
 use mathlib.Core.List.{List}
 use native.Mathlib.Omega.{arith}
-use borrow.Author.Tests.{leb-true}
-use lib.Dec.{leb}
-use lib.IntN.{ℤ, pos, negsuc}
+use lib.IntN.{ℤ}
 use Rattle.format.specs.declared.module.Handler.{Handler}
 use Rattle.format.specs.declared.module.ExceptionCase.{ExceptionCase}
 use Rattle.format.specs.declared.refusal.Refusal.{Refusal}
@@ -16,13 +13,11 @@ use Rattle.format.specs.WellFormed.{functionCountFrom, functionFrom, importFrom
 use Rattle.laws.proofs.Groups.{Cased}
 use Rattle.laws.proofs.Many.{stopped}
 use Rattle.laws.proofs.Scans.{scan-renamed}
-use Rattle.laws.proofs.Truth.{and-both}
 use Rattle.rows.specs.declared.Kind.the-variants as K
 use Rattle.rows.specs.declared.Row.the-variants as R
 use Rattle.rows.specs.declared.groups.Group.the-variants as G
-use Rattle.table_pieces.proofs.Tested.{passed-test}
-use Rattle.table_handlers.specs.Tests.{caseCountRight}
-use Rattle.table_handlers.proofs.Handlers.{handlers}
+use Rattle.table_pieces.proofs.Tested.{there-got}
+use Rattle.table_handlers.proofs.Handlers.{handlers, few-cases}
 use Rattle.table_rows.specs.Rows.{rowFrom}
 use Rattle.table_groups.specs.Groups.{groupFrom}
 
@@ -36,12 +31,6 @@ end-named : {P A B : Type 0} (name : A → B) (s : Step P A) → endOf (andThen 
 unfolding endOf
 end-named name (got x q) = refl
 end-named name (refused r) = refl
-
-few-cases : (z : ℤ) → caseCountRight z ≡ true → Cased z
-few-cases (pos n) e =
-    let t = and-both (leb 1 n) (leb n 65536) e in
-    record { number = n; is = refl; least = leb-true 1 n (t .0); most = leb-true n 65536 (t .1) }
-few-cases (negsuc n) e = let z : _≡_ {A = ℕ} 0 1 = cc in absurd (omega arith)
 
 module _ (file : List ℕ) (words : List ℤ) (w : ℕ) where
   -- ---- an import module
@@ -62,7 +51,7 @@ module _ (file : List ℕ) (words : List ℤ) (w : ℕ) where
 
   module _ {h : Handler} {d : ℕ} (head : handlerFrom words w ≡ got h d) where
     pub handler-cased : Cased (h .cases)
-    handler-cased = few-cases (h .cases) (passed-test (handlers words) w head)
+    handler-cased = few-cases (h .cases) (there-got (handlers words) w head .passed)
 
     module _ (k : Cased (h .cases)) where
       pub cases-stop : {why : Refusal} → endOf (many (rowFrom file words K.Cases) (k .number - 1) d) ≡ stops why → endOf (groupFrom file words G.Handlers w) ≡ stops why

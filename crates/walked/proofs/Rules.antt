@@ -1,7 +1,7 @@
 -- The rules of the walk, as equations: what each event answers in which state. They shut out a walk that does otherwise.
 -- Assumes nothing.
 use Prim.Native.Nat.{ℕ, suc, _≤_, _<_}
-use mathlib.Core.Path.{_≡_, refl, ap, _∙_, fun-ext}
+use mathlib.Core.Path.{_≡_, refl, ap, _∙_}
 use mathlib.Core.Logic.{_⊎_, inl, inr}
 use mathlib.Core.Bool.{Bool, true, false, or-true}
 use mathlib.Core.List.{List, [], _∷_, _++_}
@@ -27,17 +27,6 @@ use Rattle.laws.proofs.Many.{All}
 use Rattle.laws.proofs.Truth.{same-bytes, bytes-same}
 use Rattle.walked.proofs.Had.{Below, HadFrame, HadBoth, has-both, lacks-one, breaks}
 
--- ---- lent tables: 1 and 22 in every state, and over well-formed ones it is the walk of their records
-
-module _ (m : Module) (file : List ℕ) (words : List ℤ) where
-  pub walk-is : {r : Records} {w : ℕ} → recordsOf m file words ≡ got r w → walkOf m file words ≡ moved file r
-  unfolding walkOf
-  walk-is e = fun-ext λ event. fun-ext λ s. rw e
-
-  pub walk-refused : {why : Refusal} → recordsOf m file words ≡ refused why → (event : Event) (s : State) → walkOf m file words event s ≡ Refused why s
-  unfolding walkOf
-  walk-refused e event s = rw e
-
 -- ---- the cases that take a name: nameless ones, and those of that name
 
 pub nameless-takes : (raised : List ℕ) → takes [] raised ≡ true
@@ -56,19 +45,19 @@ takes-only (b ∷ bs) raised e = inr (same-bytes (b ∷ bs) raised (rw (eqb·suc
 
 module _ (codeSize typeSize : ℕ) where
   -- a last case with -1, whatever the handler's type
-  pub no-catch-all : (t : ℤ) (c : ExceptionCase) → c .pc ≡ negsuc 0 → caught codeSize typeSize t true c ≡ Stopped NoCatchAll
+  pub no-catch-all : (t : ℤ) → caught codeSize typeSize t true (negsuc 0) ≡ Stopped NoCatchAll
   unfolding caught
-  no-catch-all t c e = rw e
+  no-catch-all t = refl
 
   -- an earlier one
-  pub early-none : (t : ℤ) (c : ExceptionCase) {n : ℕ} → c .pc ≡ negsuc n → caught codeSize typeSize t false c ≡ Broken
+  pub early-none : (t : ℤ) (n : ℕ) → caught codeSize typeSize t false (negsuc n) ≡ Broken
   unfolding caught
-  early-none t c e = rw e (breaks codeSize typeSize (negsuc _) (handlerFrame t) λ h. absurd (h .code))
+  early-none t n = breaks codeSize typeSize (negsuc n) (handlerFrame t) λ h. absurd (h .code)
 
-  pub catches : (t : ℤ) (last : Bool) (c : ExceptionCase) {n : ℕ} → c .pc ≡ pos n → caught codeSize typeSize t last c ≡ goTo codeSize typeSize (pos n) (handlerFrame t)
+  pub catches : (t : ℤ) (last : Bool) (n : ℕ) → caught codeSize typeSize t last (pos n) ≡ goTo codeSize typeSize (pos n) (handlerFrame t)
   unfolding caught
-  catches t true c e = rw e
-  catches t false c e = rw e
+  catches t true n = refl
+  catches t false n = refl
 
   -- a handler's type that is not in the table, also with no types at all: only -1 is none
   pub type-lost : (pc t : ℤ) → minusOne t ≡ false → (Below (pos typeSize) t → ⊥) → goTo codeSize typeSize pc (handlerFrame t) ≡ Broken
@@ -83,7 +72,7 @@ module _ (codeSize typeSize : ℕ) where
 
     -- the first that takes the name
     pub first-case : (t : ℤ) (cs : List ExceptionCase) (c : ExceptionCase) (ds : List ExceptionCase) → All Passes cs → takes (shown file (c .name)) raised ≡ true
-        → firstCase codeSize typeSize file raised t (cs ++ c ∷ ds) ≡ caught codeSize typeSize t (eqb (length ds) 0) c
+        → firstCase codeSize typeSize file raised t (cs ++ c ∷ ds) ≡ caught codeSize typeSize t (eqb (length ds) 0) (c .pc)
     unfolding firstCase
     first-case t [] c ds all e = rw e
     first-case t (d ∷ cs) c ds all e = rw (all .0) (first-case t cs c ds (all .1) e)
@@ -196,7 +185,7 @@ module _ (file : List ℕ) (r : Records) where
     -- the first case that takes the name, of the first handler that covers the pc
     module _ (gs hs : List Handled) (h : Handler) (cs ds : List ExceptionCase) (c : ExceptionCase) (handlers : r .handlers ≡ gs ++ (h, cs ++ c ∷ ds) ∷ hs)
         (outside : All (λ g. covers pc (g .0) ≡ false) gs) (inside : covers pc h ≡ true) (others : All (Passes codeSize typeSize file name) cs) (this : takes (shown file (c .name)) name ≡ true) where
-      pub raised : moved file r (raise name) (At pc f) ≡ Walked (caught codeSize typeSize (h .descriptor) (eqb (length ds) 0) c)
+      pub raised : moved file r (raise name) (At pc f) ≡ Walked (caught codeSize typeSize (h .descriptor) (eqb (length ds) 0) (c .pc))
       raised =
           raise-is ∙ ap Walked (ap (firstHandler codeSize typeSize file name pc) handlers
           ∙ first-handler codeSize typeSize file name pc gs h (cs ++ c ∷ ds) hs outside inside
@@ -204,10 +193,10 @@ module _ (file : List ℕ) (r : Records) where
 
       -- a last case with -1: the handler's type is not looked at
       pub raise-stops : ds ≡ [] → c .pc ≡ negsuc 0 → moved file r (raise name) (At pc f) ≡ Walked (Stopped NoCatchAll)
-      raise-stops last stop = raised ∙ rw last (ap Walked (no-catch-all codeSize typeSize (h .descriptor) c stop))
+      raise-stops last stop = raised ∙ rw (last, stop) (ap Walked (no-catch-all codeSize typeSize (h .descriptor)))
 
       pub raise-goes : {n : ℕ} → c .pc ≡ pos n → moved file r (raise name) (At pc f) ≡ Walked (goTo codeSize typeSize (pos n) (handlerFrame (h .descriptor)))
-      raise-goes there = raised ∙ ap Walked (catches codeSize typeSize (h .descriptor) (eqb (length ds) 0) c there)
+      raise-goes there = raised ∙ rw there (ap Walked (catches codeSize typeSize (h .descriptor) (eqb (length ds) 0) _))
 
 -- ---- a refusal hands the state back unchanged, and over well-formed tables it is 25
 

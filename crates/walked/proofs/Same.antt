@@ -23,7 +23,7 @@ use Rattle.laws.proofs.OperandBack.{Bytes}
 use Rattle.loaded.proofs.Leaves.{loaded-records}
 use Rattle.reload.proofs.Shown.{shown-ind, entry-same, range-same, code-same, types-same}
 use Rattle.reload.proofs.Again.{records-same, load-again}
-use Rattle.walked.proofs.Rules.{walk-is}
+use Rattle.laws.proofs.Walks.{walk-is}
 
 module _ (file file′ : List ℕ) where
   module _ (codeSize typeSize : ℕ) where

@@ -27,12 +27,13 @@ use Rattle.format.specs.Walk.{Event, entry, export, next, raise, frameOf, handl
 use Rattle.laws.proofs.Loads.{accepted}
 use Rattle.laws.proofs.Lists.{all-told, all-both}
 use Rattle.laws.proofs.Many.{All}
+use Rattle.laws.proofs.Names.{shown-nowhere}
 use Rattle.laws.proofs.Truth.{then-none, unless-none}
+use Rattle.laws.proofs.Walks.{walk-is}
 use Rattle.loaded.proofs.Good.{Good, HandledGood}
 use Rattle.loaded.proofs.Leaves.{loaded-good, loaded-records}
-use Rattle.roundtrip.proofs.Back.{shown-nowhere}
 use Rattle.walked.proofs.Had.{HadFrame, HadBoth, Had, below-is, has-both, goes}
-use Rattle.walked.proofs.Rules.{walk-is, nameless-takes}
+use Rattle.walked.proofs.Rules.{nameless-takes}
 
 -- a test that held, but not by its first part
 or-second : (a b : Bool) → (a || b) ≡ true → a ≡ false → b ≡ true
@@ -99,10 +100,9 @@ module _ (codeSize typeSize : ℕ) where
       let v = then-none (unless (ltZ (h .begin) (h .end)) _) _ (u .1) in
       type-had (minusOne (h .descriptor)) (h .descriptor) (unless-none _ _ (v .1))
 
-  caught-there : (t : ℤ) (last : Bool) (c : ExceptionCase) → HadFrame (pos typeSize) (handlerFrame t) → ((last && minusOne (c .pc)) || below codeSize (c .pc)) ≡ true
-      → There (caught codeSize typeSize t last c)
+  caught-there : (t : ℤ) (last : Bool) (pc : ℤ) → HadFrame (pos typeSize) (handlerFrame t) → ((last && minusOne pc) || below codeSize pc) ≡ true → There (caught codeSize typeSize t last pc)
   unfolding caught
-  caught-there t last c had e = one-there (last && minusOne (c .pc)) _ _ (λ _. tt) λ off. goes-there (c .pc) _ (or-second _ _ e off) had
+  caught-there t last pc had e = one-there (last && minusOne pc) _ _ (λ _. tt) λ off. goes-there pc _ (or-second _ _ e off) had
 
   module _ (file : List ℕ) where
     -- the last case is nameless
@@ -116,11 +116,11 @@ module _ (codeSize typeSize : ℕ) where
           → There (firstCase codeSize typeSize file raised t cs)
       unfolding caseFault firstCase
       cases-there t had k j [] ends e = absurd ends
-      cases-there t had k j (c ∷ []) ends e = rw (ends, nameless-takes raised) (caught-there t true c had (unless-none _ _ e))
+      cases-there t had k j (c ∷ []) ends e = rw (ends, nameless-takes raised) (caught-there t true (c .pc) had (unless-none _ _ e))
       cases-there t had k j (c ∷ d ∷ cs) ends e =
           let f = then-none (unless (below codeSize (c .pc)) _) _ e in
           let inside : below codeSize (c .pc) ≡ true = unless-none _ _ (f .0) in
-          one-there (takes (shown file (c .name)) raised) _ _ (λ _. caught-there t (eqb (suc (length cs)) 0) c had (rw inside (or-true (eqb (suc (length cs)) 0 && minusOne (c .pc)))))
+          one-there (takes (shown file (c .name)) raised) _ _ (λ _. caught-there t (eqb (suc (length cs)) 0) (c .pc) had (rw inside (or-true (eqb (suc (length cs)) 0 && minusOne (c .pc)))))
           (λ _. cases-there t had k (suc j) (d ∷ cs) ends (f .1))
 
       handlers-there : (pc : ℤ) (hs : List Handled) → All (λ h. There (firstCase codeSize typeSize file raised (h .0 .descriptor) (h .1))) hs

@@ -1,146 +1,25 @@
 // Runs a table of modules through write. Each row loads a file, changes what it says of the table words or of what comes beside them, and writes the module
 // to an output of which every byte is 7: what write answers, and what the output holds.
-use format::module::Header;
+use changes::Beside;
+use changes::Table;
+use changes::WORDS;
+use changes::change_beside;
+use changes::change_table;
+use changes::least;
+use changes::lent_of;
 use format::module::LoadAnswer;
 use format::module::Module;
 use format::module::WriteAnswer;
-use format::refusal::Refusal;
-use format::refusal::numbers_of;
 use format::types::Span;
 use load::load;
+use printing::OUT;
+use printing::print_refusal;
 use write::write;
-ghost use Prim.Native.Nat.{_≤_};
 
-const OUT: i32 = 1;
-
-// How many words are lent, and how many bytes at most.
-const WORDS: usize = 96;
-
+// How many bytes are lent at most.
 const ROOM: usize = 128;
 
-// What a row changes of the table words: none, one, two, or how many of them write is lent.
-enum Table {
-    Kept,
-    Word {
-        at: usize,
-        to: i32,
-    },
-    Words {
-        at: usize,
-        to: i32,
-        other: usize,
-        too: i32,
-    },
-    Cut(usize),
-}
-
-// What a row changes beside the words.
-enum Beside {
-    Kept,
-    Magic(i32),
-    Signature(Span),
-    Flags(i32),
-    StackExtent(i32),
-    CodeSize(i32),
-    DataSize(i32),
-    TypeSize(i32),
-    ExportSize(i32),
-    EntryPc(i32),
-    EntryType(i32),
-    Name(Span),
-    Items(i32),
-    Imports(i32),
-    Handlers(i32),
-}
-
-// A row may ask for no more than there is.
-fn least(n: usize, limit: usize) -> usize
-    ensures { λ r. ⌜ r ≤ limit ⌝ }
-{
-    if limit < n { limit } else { n }
-}
-
-// ---- changing
-
-fn change_word(words: &mut [i32], at: usize, to: i32) {
-    if at < words.len() {
-        words[at] = to;
-    }
-}
-
-fn change_table(words: &mut [i32], table: Table) {
-    match table {
-        Table::Kept => {}
-        Table::Word { at, to } => change_word(words, at, to),
-        Table::Words { at, to, other, too } => {
-            change_word(words, at, to);
-            change_word(words, other, too);
-        }
-        Table::Cut(_) => {}
-    }
-}
-
-fn lent_of(table: Table) -> usize
-    ensures { λ r. ⌜ r ≤ 96 ⌝ }
-{
-    match table {
-        Table::Cut(n) => least(n, WORDS),
-        _ => WORDS,
-    }
-}
-
-fn change_header(mut h: Header, beside: Beside) -> Header {
-    match beside {
-        Beside::Magic(v) => h.magic = v,
-        Beside::Signature(s) => h.signature = s,
-        Beside::Flags(v) => h.flags = v,
-        Beside::StackExtent(v) => h.stack_extent = v,
-        Beside::CodeSize(v) => h.code_size = v,
-        Beside::DataSize(v) => h.data_size = v,
-        Beside::TypeSize(v) => h.type_size = v,
-        Beside::ExportSize(v) => h.export_size = v,
-        Beside::EntryPc(v) => h.entry_pc = v,
-        Beside::EntryType(v) => h.entry_type = v,
-        _ => {}
-    }
-    h
-}
-
-fn change_beside(mut m: Module, beside: Beside) -> Module {
-    let h = change_header(m.header, beside);
-    m.header = h;
-    match beside {
-        Beside::Name(s) => m.name = s,
-        Beside::Items(v) => m.items = v,
-        Beside::Imports(v) => m.imports = v,
-        Beside::Handlers(v) => m.handlers = v,
-        _ => {}
-    }
-    m
-}
-
 // ---- printing
-
-fn print_detail(v: i64) {
-    if v < 0 {
-        io::write_all(OUT, b" -");
-        io::print_decimal(OUT, (-1 - v) as u64 + 1);
-    } else {
-        io::write_all(OUT, b" ");
-        io::print_decimal(OUT, v as u64);
-    }
-}
-
-fn print_refusal(why: Refusal) {
-    let n = numbers_of(why);
-    io::write_all(OUT, b"refused ");
-    io::print_decimal(OUT, n.number as u64);
-    io::write_all(OUT, b" ");
-    io::print_decimal(OUT, n.section as u64);
-    io::write_all(OUT, b" ");
-    io::print_decimal(OUT, n.place as u64);
-    print_detail(n.detail);
-}
 
 fn print_byte(b: u8) {
     io::write_all(OUT, b" ");

@@ -16,7 +16,8 @@ use Rattle.rows.specs.declared.groups.Group.the-variants as G
 use Rattle.measure.specs.Measured.{Sits, Follows}
 use Rattle.measure.specs.Layout.{nameLines, rowsAt, groupsAt, SectionIs}
 use Rattle.measure.proofs.Chained.{header-sits, sits-more, chained}
-use Rattle.measure.proofs.Placed.{Sections, sections, counts-told}
+use Rattle.tables.proofs.Told.{counts-told}
+use Rattle.measure.proofs.Placed.{Sections, sections}
 use borrow.Author.Needs.{needs}
 use Rattle.measure.proofs.whole.measure.Statement.{statement}
 use Rattle.measure.proofs.whole.measure.Tie as tie
@@ -73,14 +74,14 @@ imports-are : (s : tie.Start) → let p = s .args .places in
     SectionIs (now (s .args .file)) (now (s .args .words)) G.Imports (s .args .m .header .flags) (p .counts .imports) (p .«at_imports») (p .«at_handlers»)
 imports-are s =
     let r = at s .imports in
-    let n = counts-told (s .args .m) (s .pre .0 .counts) .0 in
+    let n = counts-told (s .args .m) (s .pre .0 .counts) .imports in
     record { small = s .pre .0 .small; few = omega (arith, s .good .0, ap mag n); low = r .low; begins = r .begins; all = r .all; ends = sym (r .ends); allowed = s .pre .1 .0 }
 
 handlers-are : (s : tie.Start) → let p = s .args .places in
     SectionIs (now (s .args .file)) (now (s .args .words)) G.Handlers (s .args .m .header .flags) (p .counts .handlers) (p .«at_handlers») (p .end)
 handlers-are s =
     let r = at s .handlers in
-    let n = counts-told (s .args .m) (s .pre .0 .counts) .1 in
+    let n = counts-told (s .args .m) (s .pre .0 .counts) .handlers in
     record { small = s .pre .0 .small; few = omega (arith, s .good .0, ap mag n); low = r .low; begins = r .begins; all = r .all; ends = sym (r .ends); allowed = s .pre .1 .1 }
 
 after-imports : (c : tie.After-then-section)

@@ -15,7 +15,8 @@ use Rattle.rows.specs.declared.groups.Group.the-variants as G
 use Rattle.line_bytes.specs.Laid.{Ready}
 use Rattle.line_bytes.proofs.Chain.{Writing, writing, ready, ready-last, step, finish-last}
 use Rattle.measure.specs.Layout.{nameLines, rowsAt, groupsAt, moduleLines}
-use Rattle.measure.proofs.Placed.{Sections, sections, counts-told}
+use Rattle.tables.proofs.Told.{counts-told}
+use Rattle.measure.proofs.Placed.{Sections, sections}
 use Rattle.write.specs.Wrote.{partsOf}
 use Rattle.write.proofs.Laying.{laid-same, eight, single}
 use Rattle.write.proofs.whole.write_module.Statement.{statement}
@@ -91,10 +92,10 @@ module _ (s : tie.Start) where
   flags-kept = kept (s .args .m .header .flags) (omega (arith, s .good .0))
 
   few-imports : s .args .places .counts .imports < 2 ^ 31
-  few-imports = omega (arith, s .good .0, ap mag (counts-told (s .args .m) (s .pre .0 .counts) .0))
+  few-imports = omega (arith, s .good .0, ap mag (counts-told (s .args .m) (s .pre .0 .counts) .imports))
 
   few-handlers : s .args .places .counts .handlers < 2 ^ 31
-  few-handlers = omega (arith, s .good .0, ap mag (counts-told (s .args .m) (s .pre .0 .counts) .1))
+  few-handlers = omega (arith, s .good .0, ap mag (counts-told (s .args .m) (s .pre .0 .counts) .handlers))
 
 after-header : (p : tie.After-put-header) → let s = p .before .before .before .before .before .before .before in Left s (from-code s) (p .put-header .result) (p .put-header .last .0)
 after-header p = let s = p .before .before .before .before .before .before .before in step (header s) (from-code s) (writing (all-ready s)) (p .put-header .ensures)

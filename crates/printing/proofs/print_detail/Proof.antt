@@ -7,8 +7,8 @@ use mir.Val.{toZ, ofZ}
 use mir.Facts.{toZ-ofZ}
 use borrow.Author.Needs.{needs}
 use Rattle.bits.proofs.Signs.{flip, not-below}
-use Rattle.write_table.proofs.print_detail.Statement.{statement}
-use Rattle.write_table.proofs.print_detail.Tie as tie
+use Rattle.printing.proofs.print_detail.Statement.{statement}
+use Rattle.printing.proofs.print_detail.Tie as tie
 
 flipped : (c : tie.Then1) → negsuc 0 -ℤ toZ w64 (ofZ w64 (c .before .args .v)) ≡ pos (mag (c .before .args .v))
 flipped c =
@@ -18,7 +18,7 @@ flipped c =
 sub-print-decimal : tie.Need-sub-print-decimal
 sub-print-decimal c = rw (flipped (c .before .before)) (record { sfits = c .before .before .before .fits .v .sfits })
 
-back : (c : tie.After-write-all) → toZ w64 (ofZ w64 (negsuc 0 -ℤ toZ w64 (ofZ w64 (c .before .before .before .args .v)))) ≡ pos (mag (c .before .before .before .args .v))
+back : (c : tie.After-print) → toZ w64 (ofZ w64 (negsuc 0 -ℤ toZ w64 (ofZ w64 (c .before .before .before .args .v)))) ≡ pos (mag (c .before .before .before .args .v))
 back c = toZ-ofZ (sub-print-decimal c) ∙ flipped (c .before .before)
 
 cast-print-decimal : tie.Need-cast-print-decimal

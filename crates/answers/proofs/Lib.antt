@@ -1,0 +1,4 @@
+pub mod Checked
+pub mod Once
+pub mod Operations
+pub mod Views
