@@ -60,6 +60,12 @@ use Rattle.table_names.proofs.function_count_from.Reads as function-count-from
 use Rattle.table_handlers.proofs.handler_from.Reads as handler-from
 use Rattle.table_handlers.proofs.case_from.Reads as case-from
 use Rattle.table_handlers.proofs.last_from.Reads as last-from
+use Rattle.abi.proofs.dis_load.Reads as dis-load
+use Rattle.abi.proofs.dis_write.Reads as dis-write
+use Rattle.abi.proofs.dis_entry.Reads as dis-entry
+use Rattle.abi.proofs.dis_export.Reads as dis-export
+use Rattle.abi.proofs.dis_next.Reads as dis-next
+use Rattle.abi.proofs.dis_raise.Reads as dis-raise
 use Rattle.answers.proofs.Once.{Once, one, one-of, one-viewed}
 use Rattle.answers.proofs.Views.{byRead, byte-kept, number-kept, spanGot, span-kept, byOption, mode-kept, middle-kept, kind-kept, byStep, instruction-kept, type-kept, item-kept, export-kept, function-kept, function-count-kept, handler-kept, case-kept}
 
@@ -82,6 +88,26 @@ next-once κs a r s v w p q = one-of p q
 
 pub raise-once : Once raise.Learnt (λ κs r v. r)
 raise-once κs a r s v w p q = one-of p q
+
+-- ---- the boundary: what is returned, and every slice that may be written
+
+pub dis-load-once : Once {S = ℤ × List ℤ × List ℤ × List ℤ} dis-load.Learnt (λ κs r v. (r, now (v .1 .0), now (v .1 .1 .0), now (v .1 .1 .1 .0)))
+dis-load-once κs a r s v w p q = one-of p q
+
+pub dis-write-once : Once {S = ℤ × List ℕ × List ℤ} dis-write.Learnt (λ κs r v. (r, now (v .1 .1 .1 .0), now (v .1 .1 .1 .1 .0)))
+dis-write-once κs a r s v w p q = one-of p q
+
+pub dis-entry-once : Once {S = ℤ × List ℤ × List ℤ} dis-entry.Learnt (λ κs r v. (r, now (v .1 .1 .1 .0), now (v .1 .1 .1 .1 .0)))
+dis-entry-once κs a r s v w p q = one-of p q
+
+pub dis-export-once : Once {S = ℤ × List ℤ × List ℤ} dis-export.Learnt (λ κs r v. (r, now (v .1 .1 .1 .1 .0), now (v .1 .1 .1 .1 .1 .0)))
+dis-export-once κs a r s v w p q = one-of p q
+
+pub dis-next-once : Once {S = ℤ × List ℤ × List ℤ} dis-next.Learnt (λ κs r v. (r, now (v .1 .1 .1 .0), now (v .1 .1 .1 .1 .0)))
+dis-next-once κs a r s v w p q = one-of p q
+
+pub dis-raise-once : Once {S = ℤ × List ℤ × List ℤ} dis-raise.Learnt (λ κs r v. (r, now (v .1 .1 .1 .1 .0), now (v .1 .1 .1 .1 .1 .0)))
+dis-raise-once κs a r s v w p q = one-of p q
 
 -- ---- leaves
 

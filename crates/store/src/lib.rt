@@ -26,7 +26,7 @@ fn put_two(words: &mut [i32], w: usize, a: i32, b: i32)
     words[w + 1] = b;
 }
 
-fn put_three(words: &mut [i32], w: usize, a: i32, b: i32, c: i32)
+pub fn put_three(words: &mut [i32], w: usize, a: i32, b: i32, c: i32)
     requires { ⌜ w + 3 ≤ length (now words) ⌝ }
     ensures { λ _. ⌜ now (words .exit) ≡ put w (a ∷ b ∷ c ∷ []) (now (words .entry)) ⌝ }
 {
@@ -35,7 +35,7 @@ fn put_three(words: &mut [i32], w: usize, a: i32, b: i32, c: i32)
     words[w + 2] = c;
 }
 
-fn put_five(words: &mut [i32], w: usize, a: i32, b: i32, c: i32, d: i32, e: i32)
+pub fn put_five(words: &mut [i32], w: usize, a: i32, b: i32, c: i32, d: i32, e: i32)
     requires { ⌜ w + 5 ≤ length (now words) ⌝ }
     ensures { λ _. ⌜ now (words .exit) ≡ put w (a ∷ b ∷ c ∷ d ∷ e ∷ []) (now (words .entry)) ⌝ }
 {

@@ -1,0 +1,15 @@
+use borrow.Author.Tests.{le-leb, lt-leb}
+use Rattle.abi.specs.Boundary.{enough}
+use Rattle.abi.proofs.enough.Statement.{statement}
+use Rattle.abi.proofs.enough.Tie as tie
+
+returns : tie.Need-returns
+unfolding enough
+returns c = rw (lt-leb 16 (c .before .args .numbers) (c .if1 .taken))
+
+returns-2 : tie.Need-returns-2
+unfolding enough
+returns-2 c = rw (le-leb 16 (c .before .args .numbers) (c .if1 .left))
+
+pub enough-spec : {M : Type 1} → statement M
+enough-spec = tie.close (tie.spec returns returns-2)
