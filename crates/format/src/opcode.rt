@@ -1,6 +1,4 @@
-// opcode.rs: the opcodes by name, and which bytes are one.
-ghost use mathlib.Core.Path.{_≡_};
-ghost use lib.Dec.{leb};
+// opcode.rs: the opcodes by name.
 
 pub const NOP: u8 = 0x00;
 
@@ -353,13 +351,3 @@ pub const EXPF: u8 = 0xAD;
 pub const SELF_: u8 = 0xAE;
 
 pub const BRKPT: u8 = 0xAF;
-
-// `transmute` becomes a range decision.
-pub fn is_opcode(b: u8) -> bool
-    ensures { λ r. ⌜ r ≡ leb b 175 ⌝ }
-{
-    match b {
-        0..=175 => true,
-        176..=255 => false,
-    }
-}

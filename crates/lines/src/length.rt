@@ -2,8 +2,6 @@
 use format::instruction::Instruction;
 use format::instruction::MiddleOperand;
 use format::instruction::Operand;
-use format::instruction::middle_number;
-use format::instruction::mode_number;
 use format::module::DataItem;
 use format::module::ExceptionCase;
 use format::module::ExportEntry;
@@ -13,6 +11,8 @@ use format::types::TypeDescriptor;
 use reader::spans::name;
 use reader::write::operand_len;
 use rows::Row;
+use values::instruction::middle_number;
+use values::instruction::mode_number;
 ghost use mathlib.Core.Path.{_≡_};
 ghost use Prim.Native.Nat.{_≤_};
 ghost use lib.ListN.{length};

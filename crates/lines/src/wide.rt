@@ -2,14 +2,14 @@
 use format::instruction::Instruction;
 use format::instruction::MiddleOperand;
 use format::instruction::Operand;
-use format::instruction::middle_number;
-use format::instruction::mode_number;
 use format::module::DataItem;
 use format::module::ExceptionCase;
 use format::module::ExportEntry;
 use format::types::TypeDescriptor;
 use reader::write::operand_len;
 use rows::Row;
+use values::instruction::middle_number;
+use values::instruction::mode_number;
 ghost use mathlib.Core.Path.{_≡_};
 ghost use Rattle.format.specs.Writing.{registers, middleRegister, instructionLine};
 ghost use Rattle.lines.specs.Lines.{wideOf, wideOne, wideTwo, orElse, firstWide, WideIn};

@@ -1,6 +1,6 @@
 // Import modules with their functions, handlers with their cases: groups of records, each kind in a section under its flag.
 use format::module::Flag;
-use format::module::contains;
+use values::module::contains;
 ghost use mathlib.Core.Path.{_≡_};
 ghost use Rattle.rows.specs.Groups.{sectionOf, flagOf};
 

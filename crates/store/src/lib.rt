@@ -2,15 +2,15 @@
 use format::instruction::Instruction;
 use format::instruction::MiddleOperand;
 use format::instruction::Operand;
-use format::instruction::middle_number;
-use format::instruction::mode_number;
 use format::module::DataItem;
 use format::module::ExceptionCase;
 use format::module::ExportEntry;
 use format::module::Handler;
 use format::module::ImportEntry;
-use format::module::kind_number;
 use format::types::TypeDescriptor;
+use values::instruction::middle_number;
+use values::instruction::mode_number;
+use values::module::kind_number;
 ghost use mathlib.Core.Path.{_≡_};
 ghost use mathlib.Core.List.{[], _∷_};
 ghost use Prim.Native.Nat.{_+_, _≤_};

@@ -1,7 +1,7 @@
 use native.Mathlib.Omega.{arith}
 use borrow.Author.Tests.{le-leb, lt-leb}
-use Rattle.format.proofs.opcode.is_opcode.Statement.{statement}
-use Rattle.format.proofs.opcode.is_opcode.Tie as tie
+use Rattle.values.proofs.opcode.is_opcode.Statement.{statement}
+use Rattle.values.proofs.opcode.is_opcode.Tie as tie
 
 returns : tie.Need-returns
 returns c = rw (le-leb (c .before .args .b) 175 (omega arith))

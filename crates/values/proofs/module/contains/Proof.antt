@@ -7,10 +7,10 @@ use lib.IntN.{ℤ}
 use mir.Facts.{toZ-ofZ}
 use borrow.Author.Needs.{needs}
 use Rattle.bits.specs.Bits.{bitsOf}
 use Rattle.format.specs.Records.{has, flagValue}
-use Rattle.format.specs.Types.{Flag}
-use Rattle.format.proofs.module.contains.Statement.{statement}
-use Rattle.format.proofs.module.contains.Tie as tie
+use Rattle.laws.proofs.Types.{Flag}
+use Rattle.values.proofs.module.contains.Statement.{statement}
+use Rattle.values.proofs.module.contains.Tie as tie
 
 -- the lowest of the bits that are left when the flag's is shifted down
 one-bit : (flags : ℤ) (flag flag′ : Flag) (bits : ℕ) → bits ≡ bitsOf (2 ^ 31) flags → flag ≡ flag′

@@ -1,7 +1,7 @@
 use Prim.Native.Nat.{_/_}
 use lib.Bits.{and-mask}
-use Rattle.format.proofs.instruction.addressing_of.Statement.{statement}
-use Rattle.format.proofs.instruction.addressing_of.Tie as tie
+use Rattle.values.proofs.instruction.addressing_of.Statement.{statement}
+use Rattle.values.proofs.instruction.addressing_of.Tie as tie
 
 returns : tie.Need-returns
 returns c = cc (and-mask (c .args .b) 3, and-mask (c .args .b / 8) 3)

@@ -1,7 +1,7 @@
 use Rattle.format.specs.Records.{modes}
 use Rattle.format.proofs.Ranges.{from-zero, above, none-past}
-use Rattle.format.proofs.instruction.address_mode.Statement.{statement}
-use Rattle.format.proofs.instruction.address_mode.Tie as tie
+use Rattle.values.proofs.instruction.address_mode.Statement.{statement}
+use Rattle.values.proofs.instruction.address_mode.Tie as tie
 
 returns : tie.Need-returns
 returns c = rw (c .match .keys1)

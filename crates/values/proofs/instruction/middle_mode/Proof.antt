@@ -1,7 +1,7 @@
 use Rattle.format.specs.Records.{middleModes}
 use Rattle.format.proofs.Ranges.{from-zero, above, none-past}
-use Rattle.format.proofs.instruction.middle_mode.Statement.{statement}
-use Rattle.format.proofs.instruction.middle_mode.Tie as tie
+use Rattle.values.proofs.instruction.middle_mode.Statement.{statement}
+use Rattle.values.proofs.instruction.middle_mode.Tie as tie
 
 returns : tie.Need-returns
 returns c = rw (c .match .keys1)

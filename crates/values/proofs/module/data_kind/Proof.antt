@@ -2,10 +2,10 @@ use mathlib.Core.Path.{_≡_}
 use native.Mathlib.Omega.{arith}
 use Prim.Native.Nat.{ℕ, zero, suc, _≤_, _-_}
 use mathlib.Core.Option.{none}
 use Rattle.format.specs.Records.{kinds, kindOf}
 use Rattle.format.proofs.Ranges.{from-zero, above, none-past}
-use Rattle.format.proofs.module.data_kind.Statement.{statement}
-use Rattle.format.proofs.module.data_kind.Tie as tie
+use Rattle.values.proofs.module.data_kind.Statement.{statement}
+use Rattle.values.proofs.module.data_kind.Tie as tie
 
 no-kind : (n : ℕ) → 9 ≤ n → none ≡ kindOf n
 no-kind zero h = absurd (omega arith)

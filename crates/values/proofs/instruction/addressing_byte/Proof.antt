@@ -3,13 +3,13 @@ use mathlib.Core.Path.{_≡_, ap, _∙_}
 use native.Mathlib.Omega.{arith}
 use lib.Bits.{bitOr}
 use borrow.Author.Needs.{needs}
-use Rattle.format.specs.Types.{AddressMode, MiddleMode}
+use Rattle.laws.proofs.Types.{AddressMode, MiddleMode}
 use Rattle.format.specs.declared.instruction.AddressMode.the-variants as A
 use Rattle.format.specs.declared.instruction.MiddleMode.the-variants as M
 use Rattle.format.specs.Records.{modeNumber, middleNumber, addressingByte}
 use Rattle.bits.proofs.Shifts.{shl-or-in}
-use Rattle.format.proofs.instruction.addressing_byte.Statement.{statement}
-use Rattle.format.proofs.instruction.addressing_byte.Tie as tie
+use Rattle.values.proofs.instruction.addressing_byte.Statement.{statement}
+use Rattle.values.proofs.instruction.addressing_byte.Tie as tie
 
 mode-bits : (m : AddressMode) → modeNumber m < 8
 mode-bits A.OffsetIndirectMp = omega arith

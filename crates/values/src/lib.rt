@@ -1,0 +1,4 @@
+// What the numbers of a record say, and back: opcodes, modes, the addressing byte, flags and data kinds.
+pub mod instruction;
+pub mod module;
+pub mod opcode;
