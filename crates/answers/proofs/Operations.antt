@@ -66,6 +66,14 @@ use Rattle.abi.proofs.dis_entry.Reads as dis-entry
 use Rattle.abi.proofs.dis_export.Reads as dis-export
 use Rattle.abi.proofs.dis_next.Reads as dis-next
 use Rattle.abi.proofs.dis_raise.Reads as dis-raise
+use Rattle.bits.proofs.be16.Reads as be16
+use Rattle.bits.proofs.be32.Reads as be32
+use Rattle.bits.proofs.low.Reads as low
+use Rattle.bits.proofs.magnitude.Reads as magnitude
+use Rattle.bits.proofs.as_natural.Reads as as-natural
+use Rattle.format.proofs.types.Cursor.front.Reads as cursor-front
+use Rattle.lent.proofs.first_operand.Reads as first-operand
+use Rattle.lent.proofs.left_at.Reads as left-at
 use Rattle.answers.proofs.Once.{Once, one, one-of, one-viewed}
 use Rattle.answers.proofs.Views.{byRead, byte-kept, number-kept, spanGot, span-kept, byOption, mode-kept, middle-kept, kind-kept, byStep, instruction-kept, type-kept, item-kept, export-kept, function-kept, function-count-kept, handler-kept, case-kept}
 
@@ -198,3 +206,31 @@ case-from-once κs a r s v w p q = one-viewed (caseStep _) (byStep CaseFrom-is.G
 
 pub last-from-once : Once last-from.Learnt (λ κs r v. r)
 last-from-once κs a r s v w p q = one-viewed (caseStep _) (byStep CaseFrom-is.Got CaseFrom-is.Bad) (case-kept _) r s p q
+
+-- ---- numbers and cursors
+
+pub be16-once : Once be16.Learnt (λ κs r v. r)
+be16-once κs a r s v w p q = one p q
+
+pub be32-once : Once be32.Learnt (λ κs r v. r)
+be32-once κs a r s v w p q = one p q
+
+pub low-once : Once low.Learnt (λ κs r v. r)
+low-once κs a r s v w p q = one p q
+
+pub magnitude-once : Once magnitude.Learnt (λ κs r v. r)
+magnitude-once κs a r s v w p q = one p q
+
+pub as-natural-once : Once as-natural.Learnt (λ κs r v. r)
+as-natural-once κs a r s v w p q = one p q
+
+pub cursor-front-once : Once cursor-front.Learnt (λ κs r v. r)
+cursor-front-once κs a r s v w p q = one p q
+
+-- ---- beside the Reader
+
+pub first-operand-once : Once first-operand.Learnt (λ κs r v. r)
+first-operand-once κs a r s v w p q = one-viewed numberRead (byRead N.Got N.Short) number-kept r s p q
+
+pub left-at-once : Once left-at.Learnt (λ κs r v. r)
+left-at-once κs a r s v w p q = one p q
