@@ -1,4 +1,7 @@
 // 2, code.
+pub mod plain;
+pub mod skip;
+
 use format::instruction::AddressMode;
 use format::instruction::Instruction;
 use format::instruction::MaybeAddressMode;

@@ -39,6 +39,11 @@ pub record Ready {P A : Type 0} (words : A → List ℤ) (s : Step P A) (w : ℕ
 abbrev pub One : {A : Type 0} → (A → List ℤ) → Reads Cursor A → Cursor → ℕ → List ℤ → Filled → List ℤ → Type 0
 One words read c w l = Done (wordsIn words (read c)) (thenPlace c (read c) (λ next. next)) w l
 
+-- a record that was read at c, stored
+pub record Stored {A : Type 0} (words : A → List ℤ) (s : Step Cursor A) (c : Cursor) (w : ℕ) (l : List ℤ) (next : Cursor) (now : List ℤ) : Type 0 where
+  pub stopped : next ≡ thenPlace c s (λ end. end)
+  pub holds : now ≡ put w (wordsIn words s) l
+
 -- groups, with the place after them
 pub record Groups (gs : List Grouped) (w : ℕ) (l : List ℤ) (place : ℕ) (now : List ℤ) : Type 0 where
   pub placed : place ≡ w + length (flatten groupWords gs)

@@ -1,4 +1,5 @@
 // One loop for every run of records of one kind.
+use crate::instructions::fill_code;
 use format::types::Cursor;
 use rows::Kind;
 use rows::Row;
@@ -40,14 +41,8 @@ pub fn put_row(words: &mut [i32], w: usize, row: Row) -> usize
     }
 }
 
-pub fn fill_rows(
-    file: &[u8],
-    kind: Kind,
-    n: usize,
-    c: Cursor,
-    words: &mut [i32],
-    w: usize,
-) -> Filled
+// Rows of any kind, each by its record.
+fn fill_each(file: &[u8], kind: Kind, n: usize, c: Cursor, words: &mut [i32], w: usize) -> Filled
     requires { ⌜ (length (now file) ≤ sizeLimit) × (w + length (flatten rowWords (leading (rowAt (now file) kind) n c)) ≤ length (now words)) ⌝ }
     ensures { λ r. ⌜ Rows (now (file .entry)) kind n c w (now (words .entry)) r (now (words .exit)) ⌝ }
 {
@@ -65,4 +60,24 @@ pub fn fill_rows(
         left -= 1;
     }
     Filled { next: here, place }
+}
+
+// Code, which is most of a file, has a loop of its own.
+pub fn fill_rows(
+    file: &[u8],
+    kind: Kind,
+    n: usize,
+    c: Cursor,
+    words: &mut [i32],
+    w: usize,
+) -> Filled
+    requires { ⌜ (length (now file) ≤ sizeLimit) × (w + length (flatten rowWords (leading (rowAt (now file) kind) n c)) ≤ length (now words)) ⌝ }
+    ensures { λ r. ⌜ Rows (now (file .entry)) kind n c w (now (words .entry)) r (now (words .exit)) ⌝ }
+{
+    match kind {
+        Kind::Code => fill_code(file, n, c, words, w),
+        Kind::Types | Kind::Items | Kind::Exports | Kind::Functions | Kind::Cases => {
+            fill_each(file, kind, n, c, words, w)
+        }
+    }
 }

@@ -1,4 +1,5 @@
 pub mod Chained
+pub mod Coded
 pub mod Counted
 pub mod Ends
 pub mod Facts

@@ -6,10 +6,11 @@ use lines::wide::Wide;
 use lines::wide::wide_row;
 use rows::Kind;
 use rows::Row;
+use table_lines::size::size_there;
 use table_rows::RowFrom;
 use table_rows::row_of;
 ghost use mathlib.Core.Path.{_≡_};
-ghost use Prim.Native.Nat.{_^_, _≤_, _<_};
+ghost use Prim.Native.Nat.{_+_, _^_, _≤_, _<_};
 ghost use lib.ListN.{length};
 ghost use Rattle.format.specs.Reading.{many, leading, Whole};
 ghost use Rattle.format.specs.Records.{sizeLimit};
@@ -61,15 +62,8 @@ fn measure_row(file: &[u8], row: Row, w: usize, from: usize) -> Measured
     }
 }
 
-pub fn measure_rows(
-    file: &[u8],
-    words: &[i32],
-    kind: Kind,
-    n: usize,
-    w: usize,
-    from: usize,
-) -> Measured
-    requires { ⌜ (length (now file) ≤ sizeLimit) × (from < 2 ^ 62) × Whole (many (rowFrom (now file) (now words) kind) n w) ⌝ }
+fn measure_each(file: &[u8], words: &[i32], kind: Kind, n: usize, w: usize, from: usize) -> Measured
+    requires { ⌜ (length (now file) ≤ sizeLimit) × (from < 2 ^ 62 + 2 ^ 61) × Whole (many (rowFrom (now file) (now words) kind) n w) ⌝ }
     ensures { λ r. ⌜ (sizeRead r ≡ measured from w (flatten (rowLines (now (file .entry))) (leading (rowFrom (now (file .entry)) (now (words .entry)) kind) n w))) × Grows from w r ⌝ }
 {
     let mut size = from;
@@ -89,4 +83,41 @@ pub fn measure_rows(
         left -= 1;
     }
     Measured::Fits { size, next: here }
+}
+
+// Instructions are most of a module: they are measured by their words, up to one that has too wide an operand.
+fn measure_code(file: &[u8], words: &[i32], n: usize, w: usize, from: usize) -> Measured
+    requires { ⌜ (length (now file) ≤ sizeLimit) × (from < 2 ^ 62) × Whole (many (rowFrom (now file) (now words) Kind.Code) n w) ⌝ }
+    ensures { λ r. ⌜ (sizeRead r ≡ measured from w (flatten (rowLines (now (file .entry))) (leading (rowFrom (now (file .entry)) (now (words .entry)) Kind.Code) n w))) × Grows from w r ⌝ }
+{
+    let mut size = from;
+    let mut here = w;
+    let mut left = n;
+    while 0 < left {
+        let len = size_there(words, here);
+        if len == 0 {
+            return measure_each(file, words, Kind::Code, left, here, size);
+        }
+        size += len;
+        here += 9;
+        left -= 1;
+    }
+    Measured::Fits { size, next: here }
+}
+
+pub fn measure_rows(
+    file: &[u8],
+    words: &[i32],
+    kind: Kind,
+    n: usize,
+    w: usize,
+    from: usize,
+) -> Measured
+    requires { ⌜ (length (now file) ≤ sizeLimit) × (from < 2 ^ 62) × Whole (many (rowFrom (now file) (now words) kind) n w) ⌝ }
+    ensures { λ r. ⌜ (sizeRead r ≡ measured from w (flatten (rowLines (now (file .entry))) (leading (rowFrom (now (file .entry)) (now (words .entry)) kind) n w))) × Grows from w r ⌝ }
+{
+    match kind {
+        Kind::Code => measure_code(file, words, n, w, from),
+        _ => measure_each(file, words, kind, n, w, from),
+    }
 }

@@ -1,9 +1,13 @@
 // One loop for every run of records of one kind.
+use code::skip::InstructionEnd;
+use code::skip::skip_instruction;
 use format::refusal::Refusal;
 use format::types::Cursor;
 use rows::Kind;
 use rows::RowRead;
 use rows::read_row;
+use types::TypeEnd;
+use types::skip_type;
 ghost use mathlib.Core.Path.{_≡_};
 ghost use Prim.Native.Nat.{_≤_};
 ghost use lib.ListN.{length};
@@ -18,6 +22,29 @@ pub enum EndRead {
     Refused(Refusal),
 }
 
+// Where a row ends. Code and types, which are most of a file, are passed over; of the others a record costs little.
+fn skip_row(file: &[u8], kind: Kind, c: Cursor) -> EndRead
+    requires { ⌜ length (now file) ≤ sizeLimit ⌝ }
+    ensures { λ r. ⌜ endRead r ≡ endOf (rowAt (now (file .entry)) kind c) ⌝ }
+{
+    match kind {
+        Kind::Code => match skip_instruction(file, c) {
+            InstructionEnd::Refused(why) => EndRead::Refused(why),
+            InstructionEnd::Done { next } => EndRead::Done { next },
+        },
+        Kind::Types => match skip_type(file, c) {
+            TypeEnd::Refused(why) => EndRead::Refused(why),
+            TypeEnd::Done { next } => EndRead::Done { next },
+        },
+        Kind::Items | Kind::Exports | Kind::Functions | Kind::Cases => {
+            match read_row(file, kind, c) {
+                RowRead::Refused(why) => EndRead::Refused(why),
+                RowRead::Got { row: _, next } => EndRead::Done { next },
+            }
+        }
+    }
+}
+
 // Where n rows of a kind end.
 pub fn scan_rows(file: &[u8], kind: Kind, n: usize, c: Cursor) -> EndRead
     requires { ⌜ length (now file) ≤ sizeLimit ⌝ }
@@ -26,9 +53,9 @@ pub fn scan_rows(file: &[u8], kind: Kind, n: usize, c: Cursor) -> EndRead
     let mut here = c;
     let mut left = n;
     while 0 < left {
-        match read_row(file, kind, here) {
-            RowRead::Refused(why) => return EndRead::Refused(why),
-            RowRead::Got { row: _, next } => {
+        match skip_row(file, kind, here) {
+            EndRead::Refused(why) => return EndRead::Refused(why),
+            EndRead::Done { next } => {
                 here = next;
             }
         }

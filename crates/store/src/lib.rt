@@ -18,7 +18,7 @@ ghost use lib.ListN.{length};
 ghost use Rattle.format.specs.Put.{put};
 ghost use Rattle.format.specs.Words as Spec;
 
-fn put_two(words: &mut [i32], w: usize, a: i32, b: i32)
+pub fn put_two(words: &mut [i32], w: usize, a: i32, b: i32)
     requires { ⌜ w + 2 ≤ length (now words) ⌝ }
     ensures { λ _. ⌜ now (words .exit) ≡ put w (a ∷ b ∷ []) (now (words .entry)) ⌝ }
 {

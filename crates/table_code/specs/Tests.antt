@@ -1,8 +1,8 @@
 -- An instruction's words as they stand, and what the tests of them ask.
 use Prim.Native.Nat.{ℕ, _+_}
-use mathlib.Core.Bool.{Bool, true, _&&_}
+use mathlib.Core.Bool.{Bool, true, false, _&&_}
 use mathlib.Core.List.{List}
-use mathlib.Core.Option.{Option, some}
+use mathlib.Core.Option.{Option, none, some}
 use lib.Dec.{leb}
 use lib.IntN.{ℤ}
 use Rattle.format.specs.declared.instruction.AddressMode.{AddressMode}
@@ -12,6 +12,10 @@ use Rattle.format.specs.declared.instruction.MiddleOperand.{MiddleOperand}
 use Rattle.format.specs.declared.instruction.Instruction.{Instruction}
 use Rattle.format.specs.Records.{byMode, byMiddle}
 use Rattle.format.specs.WellFormed.{isZero, word, withSome, numbered, onlyIf, operandFrom, middleFrom}
+
+abbrev pub isSome : {A : Type 0} → Option A → Bool
+isSome (some a) = true
+isSome none = false
 
 -- an operand of a mode, as its words stand
 abbrev pub operandThere : List ℤ → AddressMode → ℕ → Operand

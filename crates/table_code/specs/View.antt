@@ -1,10 +1,12 @@
 -- The answers about an instruction and its operands: where there is one, and as a reading where its first word is at w.
 use Prim.Native.Nat.{ℕ, _+_}
+use mathlib.Core.Bool.{Bool, true, false}
 use mathlib.Core.Option.{Option, none, some}
 use Rattle.format.specs.declared.instruction.Operand.{Operand}
 use Rattle.format.specs.declared.instruction.MiddleOperand.{MiddleOperand}
 use Rattle.format.specs.declared.instruction.Instruction.{Instruction}
-use Rattle.format.specs.Reading.{Step}
+use Rattle.format.specs.declared.refusal.Refusal.the-variants.{NotWellFormed}
+use Rattle.format.specs.Reading.{Step, End, ends, stops}
 use Rattle.format.specs.Words.{instructionWidth}
 use Rattle.format.specs.WellFormed.{orBad}
 use Rattle.table_code.specs.declared.OperandFrom.{OperandFrom}
@@ -28,3 +30,8 @@ someInstruction InstructionFrom-is.Bad = none
 
 abbrev pub instructionStep : ℕ → InstructionFrom → Step ℕ Instruction
 instructionStep w r = orBad w (w + instructionWidth) (someInstruction r)
+
+-- where an instruction ends that is only found good or bad
+abbrev pub goodEnd : ℕ → Bool → End ℕ
+goodEnd w true = ends (w + instructionWidth)
+goodEnd w false = stops (NotWellFormed w)

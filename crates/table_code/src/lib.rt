@@ -13,12 +13,14 @@ use values::instruction::address_mode;
 use values::instruction::middle_mode;
 use values::opcode::is_opcode;
 ghost use mathlib.Core.Path.{_≡_};
+ghost use mathlib.Core.Bool.{_&&_};
 ghost use Prim.Native.Nat.{_+_, _≤_};
 ghost use lib.ListN.{length};
+ghost use Rattle.format.specs.Reading.{endOf};
 ghost use Rattle.format.specs.Words.{instructionWidth};
 ghost use Rattle.format.specs.WellFormed.{word, operandFrom, middleFrom, instructionFrom};
-ghost use Rattle.table_code.specs.Tests.{operandThere, registersRight, middleThere, middleRight, instructionThere};
-ghost use Rattle.table_code.specs.View.{someOperand, someMiddle, someInstruction, instructionStep};
+ghost use Rattle.table_code.specs.Tests.{isSome, operandThere, registersRight, middleThere, middleRight, instructionThere};
+ghost use Rattle.table_code.specs.View.{someOperand, someMiddle, someInstruction, instructionStep, goodEnd};
 
 pub enum InstructionFrom {
     Got(Instruction),
@@ -150,4 +152,58 @@ pub fn instruction_from(words: &[i32], w: usize) -> InstructionFrom
         return InstructionFrom::Bad;
     }
     instruction_there(words, w)
+}
+
+pub fn both(a: bool, b: bool) -> bool
+    ensures { λ r. ⌜ r ≡ (a && b) ⌝ }
+{
+    a && b
+}
+
+fn good_operand(words: &[i32], w: usize) -> bool
+    requires { ⌜ w + 3 ≤ length (now words) ⌝ }
+    ensures { λ r. ⌜ r ≡ isSome (operandFrom (word (now (words .entry)) w) (word (now (words .entry)) (w + 1)) (word (now (words .entry)) (w + 2))) ⌝ }
+{
+    let no_first = same_word(words[w + 1], 0);
+    let no_second = same_word(words[w + 2], 0);
+    match byte_of(words[w]) {
+        0..=2 => no_second,
+        3 => both(no_first, no_second),
+        4..=5 => true,
+        6..=255 => false,
+    }
+}
+
+fn good_middle(words: &[i32], w: usize) -> bool
+    requires { ⌜ w + 2 ≤ length (now words) ⌝ }
+    ensures { λ r. ⌜ r ≡ isSome (middleFrom (word (now (words .entry)) w) (word (now (words .entry)) (w + 1))) ⌝ }
+{
+    let no_first = same_word(words[w + 1], 0);
+    match byte_of(words[w]) {
+        0 => no_first,
+        1..=3 => true,
+        4..=255 => false,
+    }
+}
+
+// Every test is made before any is looked at: one branch an instruction.
+fn good_there(words: &[i32], w: usize) -> bool
+    requires { ⌜ w + instructionWidth ≤ length (now words) ⌝ }
+    ensures { λ r. ⌜ r ≡ isSome (instructionThere (now (words .entry)) w) ⌝ }
+{
+    let opcode = is_opcode(byte_of(words[w]));
+    let source = good_operand(words, w + 1);
+    let middle = good_middle(words, w + 4);
+    let destination = good_operand(words, w + 6);
+    both(both(opcode, source), both(middle, destination))
+}
+
+// Whether there is an instruction, which is not built.
+pub fn good_instruction(words: &[i32], w: usize) -> bool
+    ensures { λ r. ⌜ goodEnd w r ≡ endOf (instructionFrom (now (words .entry)) w) ⌝ }
+{
+    if !has_room(words, 9, w) {
+        return false;
+    }
+    good_there(words, w)
 }

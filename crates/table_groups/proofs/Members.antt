@@ -19,13 +19,8 @@ use Rattle.rows.specs.declared.groups.Group.the-variants as G
 use Rattle.table_pieces.proofs.Tested.{there-got}
 use Rattle.table_handlers.proofs.Handlers.{handlers, few-cases}
 use Rattle.table_rows.specs.Rows.{rowFrom}
+use Rattle.table_rows.proofs.Reach.{ended}
 use Rattle.table_groups.specs.Groups.{groupFrom}
-
--- what ended was read
-pub ended : {P A : Type 0} (s : Step P A) {q : P} → endOf s ≡ ends q → (x : A) × (s ≡ got x q)
-unfolding endOf
-ended (got x p) e = (x, ap (got x) (cc))
-ended (refused r) e = let z : _≡_ {A = ℕ} 0 1 = cc in absurd (omega arith)
 
 end-named : {P A B : Type 0} (name : A → B) (s : Step P A) → endOf (andThen s (λ x. give (name x))) ≡ endOf s
 unfolding endOf

@@ -2,6 +2,7 @@
 use rows::Kind;
 use rows::Row;
 use table_code::InstructionFrom;
+use table_code::good_instruction;
 use table_code::instruction_from;
 use table_data::ItemFrom;
 use table_data::item_from;
@@ -107,7 +108,7 @@ pub fn row_of(file: &[u8], words: &[i32], kind: Kind, w: usize) -> RowFrom
 }
 
 // Where n rows of a kind end.
-pub fn check_rows(file: &[u8], words: &[i32], kind: Kind, n: usize, w: usize) -> EndFrom
+fn check_each(file: &[u8], words: &[i32], kind: Kind, n: usize, w: usize) -> EndFrom
     ensures { λ r. ⌜ endFrom r ≡ endOf (many (rowFrom (now (file .entry)) (now (words .entry)) kind) n w) ⌝ }
 {
     let width = row_width(kind);
@@ -123,4 +124,29 @@ pub fn check_rows(file: &[u8], words: &[i32], kind: Kind, n: usize, w: usize) ->
         left -= 1;
     }
     EndFrom::Done { next: here }
+}
+
+// Where n instructions end: they are most of a module, and none is built.
+fn check_code(words: &[i32], n: usize, w: usize) -> EndFrom
+    ensures { λ r. ⌜ endFrom r ≡ endOf (many (instructionFrom (now (words .entry))) n w) ⌝ }
+{
+    let mut here = w;
+    let mut left = n;
+    while 0 < left {
+        if !good_instruction(words, here) {
+            return EndFrom::Bad { place: here };
+        }
+        here += 9;
+        left -= 1;
+    }
+    EndFrom::Done { next: here }
+}
+
+pub fn check_rows(file: &[u8], words: &[i32], kind: Kind, n: usize, w: usize) -> EndFrom
+    ensures { λ r. ⌜ endFrom r ≡ endOf (many (rowFrom (now (file .entry)) (now (words .entry)) kind) n w) ⌝ }
+{
+    match kind {
+        Kind::Code => check_code(words, n, w),
+        _ => check_each(file, words, kind, n, w),
+    }
 }

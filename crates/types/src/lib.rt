@@ -10,15 +10,21 @@ use reader::spans::count_pointers;
 ghost use mathlib.Core.Path.{_≡_};
 ghost use Prim.Native.Nat.{_≤_};
 ghost use lib.ListN.{length};
+ghost use Rattle.format.specs.Reading.{endOf};
 ghost use Rattle.format.specs.Records.{sizeLimit};
 ghost use Rattle.format.specs.Sections.{typeAt};
-ghost use Rattle.types.specs.View.{typeRead};
+ghost use Rattle.types.specs.View.{typeRead, typeEnd};
 
 pub enum TypeRead {
     Got {
         descriptor: TypeDescriptor,
         next: Cursor,
     },
+    Refused(Refusal),
+}
+
+pub enum TypeEnd {
+    Done { next: Cursor },
     Refused(Refusal),
 }
 
@@ -53,5 +59,36 @@ pub fn read_type(file: &[u8], c: Cursor) -> TypeRead
             },
             next,
         },
+    }
+}
+
+// Where a type ends, for the first pass: the ones of its map are not counted.
+pub fn skip_type(file: &[u8], c: Cursor) -> TypeEnd
+    requires { ⌜ length (now file) ≤ sizeLimit ⌝ }
+    ensures { λ r. ⌜ typeEnd r ≡ endOf (typeAt (now (file .entry)) c) ⌝ }
+{
+    let NumberRead::Got {
+        value: _,
+        next: size,
+    } = read_operand(file, c)
+    else {
+        return TypeEnd::Refused(Refusal::Ended {
+            section: 3,
+            place: c.at,
+        });
+    };
+    let NumberRead::Got {
+        value: _,
+        next: map,
+    } = read_operand(file, size)
+    else {
+        return TypeEnd::Refused(Refusal::Ended {
+            section: 3,
+            place: size.at,
+        });
+    };
+    match read_sized(file, 3, map) {
+        SpanStep::Refused(why) => TypeEnd::Refused(why),
+        SpanStep::Got { span: _, next } => TypeEnd::Done { next },
     }
 }

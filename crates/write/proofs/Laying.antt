@@ -1,24 +1,41 @@
 -- Records whose lines are written one after the other: what is left to write from here leaves what the whole leaves.
 -- Assumes nothing.
-use Prim.Native.Nat.{ℕ, _-_, _<_}
-use mathlib.Core.Path.{_≡_, refl, sym, ap, _∙_}
-use mathlib.Core.List.{List, [], _∷_, _++_, append-nil, append-assoc}
-use Rattle.format.specs.Reading.{got, Reads, many, leading, reached, Whole}
+use Prim.Native.Nat.{ℕ, _+_, _-_, _≤_, _<_}
+use mathlib.Core.Path.{_≡_, refl, sym, ap, _∙_, subst}
+use mathlib.Core.List.{List, [], _∷_, _++_, map, append-nil, append-assoc}
+use Rattle.format.specs.declared.instruction.Instruction.{Instruction}
+use Rattle.format.specs.Reading.{got, Reads, give, many, leading, reached, Whole}
+use Rattle.format.specs.WellFormed.{instructionFrom}
 use Rattle.format.specs.Words.{flatten}
-use Rattle.format.specs.Writing.{Part, Line}
+use Rattle.format.specs.Writing.{Part, Line, instructionLine, partBytes}
 use Rattle.laws.proofs.Flatten.{flatten-append}
 use Rattle.laws.proofs.Many.{leading-done, leading-turn}
-use Rattle.laws.proofs.Scans.{reached-done, reached-turn}
-use Rattle.laws.proofs.Whole.{whole-next}
-use lib.ListN.{length}
+use Rattle.laws.proofs.Scans.{reached-done, reached-turn, many-renamed, leading-renamed, flatten-renamed}
+use Rattle.laws.proofs.Whole.{whole-part, whole-first, whole-next}
+use Rattle.rows.specs.declared.Kind.the-variants as K
+use Rattle.rows.specs.declared.Row.the-variants as R
+use lib.IntN.{ℤ}
+use lib.ListN.{length, length-append}
 use Rattle.laws.proofs.Put.{length-put}
-use Rattle.lines.specs.Lines.{bytesOf}
+use native.Mathlib.Omega.{arith}
+use Rattle.format.specs.Put.{put}
+use Rattle.lines.specs.Lines.{bytesOf, firstWide}
+use Rattle.lines.proofs.Forms.{both-none, wide-append}
+use Rattle.table_lines.specs.There.{partsThere}
+use Rattle.table_lines.specs.Over.{Over}
+use Rattle.table_lines.proofs.Overs.{stored-over, over-same}
 use Rattle.line_bytes.specs.Laid.{Ready, Laid}
-use Rattle.line_bytes.proofs.Chain.{Writing, writing, ready, step, finish}
-use Rattle.write.specs.Wrote.{partsOf}
+use Rattle.line_bytes.proofs.Chain.{Writing, writing, ready, ready-last, step, finish, finish-last}
+use Rattle.table_rows.specs.Rows.{rowFrom}
+use Rattle.measure.specs.Measured.{rowLines}
+use Rattle.measure.proofs.Coded.{Coded, coded}
+use Rattle.write.specs.Wrote.{partsOf, instructionLines}
 
 pub parts-append : (xs ys : List Line) → partsOf (xs ++ ys) ≡ partsOf xs ++ partsOf ys
 parts-append xs ys = flatten-append (λ (l : Line). l .parts) xs ys
+
+lengths : {ps : List Part} {at : ℕ} {l₀ : List ℕ} (qs rest : List Part) {a : ℕ} {l : List ℕ} → Writing ps at l₀ (qs ++ rest) a l → length (bytesOf (qs ++ rest)) ≡ length (bytesOf qs) + length (bytesOf rest)
+lengths qs rest w = ap length (flatten-append partBytes qs rest) ∙ length-append (bytesOf qs) (bytesOf rest)
 
 -- the output keeps its length
 pub laid-same : {ps : List Part} {at : ℕ} {l : List ℕ} {next : ℕ} {now : List ℕ} → Ready ps at l → Laid ps at l next now → length now ≡ length l
@@ -34,10 +51,25 @@ eight a b c d e f g h = simp (parts-append, append-assoc)
 pub single : (l : Line) → partsOf (l ∷ []) ≡ l .parts
 single l = append-nil (l .parts)
 
+step-over : {ps : List Part} {at : ℕ} {l₀ : List ℕ} (qs rest : List Part) {a : ℕ} {l : List ℕ} → Writing ps at l₀ (qs ++ rest) a l → {next : ℕ} {now : List ℕ} → Over (bytesOf qs) a l next now
+    → 4 ≤ length (bytesOf rest) → Writing ps at l₀ rest next now
+step-over qs rest {a} {l} w o long =
+    let both = lengths qs rest w in
+    record {
+      holds = stored-over o (bytesOf rest) (omega (arith, o .few, long)) (omega (arith, both, w .placed, w .room, w .same)) ∙ ap (λ bs. put a bs l) (sym (flatten-append partBytes qs rest)) ∙ w .holds;
+      placed = omega (arith, o .placed, both, w .placed);
+      room = w .room;
+      same = over-same o ∙ w .same;
+      narrow = both-none (firstWide qs) (firstWide rest) (sym (wide-append qs rest) ∙ w .narrow) .1;
+    }
+
 module _ {A : Type 0} (lines : A → List Line) (read : Reads ℕ A) where
   -- the parts of n records from a word on
   abbrev pub run : ℕ → ℕ → List Part
   run n w = partsOf (flatten lines (leading read n w))
+
+  pub run-turn : (n w : ℕ) → 0 < n → {x : A} {next : ℕ} → read w ≡ got x next → run n w ≡ partsOf (lines x) ++ run (n - 1) next
+  run-turn n w more {x} {next} e = ap (λ xs. partsOf (flatten lines xs)) (leading-turn read n w more e) ∙ parts-append (lines x) (flatten lines (leading read (n - 1) next))
 
   -- all of n records from w on, at a place of l₀; left of them are still to be written, at `place` of l
   pub record Laying (n w at : ℕ) (l₀ : List ℕ) (left here place : ℕ) (l : List ℕ) : Type 0 where
@@ -51,7 +83,7 @@ module _ {A : Type 0} (lines : A → List Line) (read : Reads ℕ A) where
   module _ {n w at : ℕ} {l₀ : List ℕ} {left here place : ℕ} {l : List ℕ} (y : Laying n w at l₀ left here place l) where
     module _ (more : 0 < left) {x : A} {next : ℕ} (e : read here ≡ got x next) where
       apart : run left here ≡ partsOf (lines x) ++ run (left - 1) next
-      apart = ap (λ xs. partsOf (flatten lines xs)) (leading-turn read left here more e) ∙ parts-append (lines x) (flatten lines (leading read (left - 1) next))
+      apart = run-turn left here more e
 
       here-first : Writing (run n w) at l₀ (partsOf (lines x) ++ run (left - 1) next) place l
       here-first = rw (← apart) (y .chain)
@@ -66,9 +98,89 @@ module _ {A : Type 0} (lines : A → List Line) (read : Reads ℕ A) where
         all = whole-next read left here (y .all) more e;
       }
 
+      -- the same, where four bytes more at most were stored behind them, which what follows stores again
+      module _ (long : 4 ≤ length (bytesOf (run (left - 1) next))) where
+        pub over-room : place + length (bytesOf (partsOf (lines x))) + 4 ≤ length l
+        over-room = omega (arith, long, lengths (partsOf (lines x)) (run (left - 1) next) here-first, here-first .placed, here-first .room, here-first .same)
+
+        pub turn-over : {place′ : ℕ} {l′ : List ℕ} → Over (bytesOf (partsOf (lines x))) place l place′ l′ → Laying n w at l₀ (left - 1) next place′ l′
+        turn-over d = record {
+          chain = step-over (partsOf (lines x)) (run (left - 1) next) here-first d long;
+          stopped = sym (reached-turn read left here more e) ∙ y .stopped;
+          all = whole-next read left here (y .all) more e;
+        }
+
+    -- what is left is written by another
+    pub left-ready : Ready (run left here) place l
+    left-ready = ready-last (run left here) (y .chain)
+
+    pub left-done : {place′ : ℕ} {l′ : List ℕ} → Laid (run left here) place l place′ l′ → Laid (run n w) at l₀ place′ l′
+    left-done d = finish-last (run left here) (y .chain) d
+
     module _ (z : left ≡ 0) where
       pub done : Laid (run n w) at l₀ place l
       done = finish (rw (ap (λ xs. partsOf (flatten lines xs)) (leading-done read left here z)) at (y .chain))
 
       pub ended : here ≡ reached read n w
       ended = sym (reached-done read left here z) ∙ y .stopped
+
+-- ---- instructions, as rows and by themselves
+
+module _ (file : List ℕ) (words : List ℤ) (n w : ℕ) where
+  pub code-lines : run (rowLines file) (rowFrom file words K.Code) n w ≡ run instructionLines (instructionFrom words) n w
+  code-lines =
+      ap (λ xs. partsOf (flatten (rowLines file) xs)) (leading-renamed R.Instruction (instructionFrom words) n w)
+      ∙ ap partsOf (flatten-renamed R.Instruction (rowLines file) (leading (instructionFrom words) n w))
+
+  pub code-whole : Whole (many (rowFrom file words K.Code) n w) → Whole (many (instructionFrom words) n w)
+  code-whole h = whole-part (many (instructionFrom words) n w) (λ xs. give (map R.Instruction xs)) (rw (many-renamed R.Instruction (instructionFrom words) n w) at h)
+
+-- ---- two more instructions are four bytes at least
+
+code-long : (words : List ℤ) (n w : ℕ) → 0 < n → (k : Coded words w) → length (bytesOf (run instructionLines (instructionFrom words) n w)) ≡ length (bytesOf (instructionLine (k .instruction) .parts)) + length (bytesOf (run instructionLines (instructionFrom words) (n - 1) (w + 9)))
+code-long words n w more k =
+    let qs = instructionLine (k .instruction) .parts in
+    let rest = run instructionLines (instructionFrom words) (n - 1) (w + 9) in
+    ap (λ ps. length (bytesOf ps)) (run-turn instructionLines (instructionFrom words) n w more (k .read) ∙ ap (λ (ps : List Part). ps ++ rest) (single (instructionLine (k .instruction))))
+    ∙ ap length (flatten-append partBytes qs rest) ∙ length-append (bytesOf qs) (bytesOf rest)
+
+two-bytes : (i : Instruction) → 2 ≤ length (bytesOf (instructionLine i .parts))
+two-bytes i = omega arith
+
+pub two-more : (words : List ℤ) (n w : ℕ) → 2 ≤ n → Whole (many (instructionFrom words) n w) → 4 ≤ length (bytesOf (run instructionLines (instructionFrom words) n w))
+two-more words n w h all =
+    let read = instructionFrom words in
+    let first = coded words w (whole-first read n w all (omega arith)) in
+    let rest = whole-next read n w all (omega arith) (first .read) in
+    let second = coded words (w + 9) (whole-first read (n - 1) (w + 9) rest (omega arith)) in
+    omega (arith, code-long words n w (omega arith) first, two-bytes (first .instruction), code-long words (n - 1) (w + 9) (omega arith) second, two-bytes (second .instruction))
+
+-- ---- an instruction that is written by its words, exactly or by slots
+
+module _ (words : List ℤ) {n w at : ℕ} {l₀ : List ℕ} {left here place : ℕ} {l : List ℕ} (y : Laying instructionLines (instructionFrom words) n w at l₀ left here place l) where
+  module _ (more : 0 < left) where
+    pub here-coded : Coded words here
+    here-coded = coded words here (whole-first (instructionFrom words) left here (y .all) more)
+
+    parts-here : partsOf (instructionLines (here-coded .instruction)) ≡ partsThere words here
+    parts-here = single (instructionLine (here-coded .instruction)) ∙ sym (here-coded .there .parts)
+
+    pub here-ready : Ready (partsThere words here) place l
+    here-ready = rw parts-here at (next-ready instructionLines (instructionFrom words) y more (here-coded .read))
+
+    pub here-turn : {place′ : ℕ} {l′ : List ℕ} → Laid (partsThere words here) place l place′ l′ → Laying instructionLines (instructionFrom words) n w at l₀ (left - 1) (here + 9) place′ l′
+    here-turn d = turn instructionLines (instructionFrom words) y more (here-coded .read) (rw (← parts-here) at d)
+
+  module _ (more : 2 < left) where
+    some-more : 0 < left
+    some-more = omega arith
+
+    rest-long : 4 ≤ length (bytesOf (run instructionLines (instructionFrom words) (left - 1) (here + 9)))
+    rest-long = two-more words (left - 1) (here + 9) (omega arith) (whole-next (instructionFrom words) left here (y .all) some-more (here-coded some-more .read))
+
+    pub slots-room : place + length (bytesOf (partsThere words here)) + 4 ≤ length l
+    slots-room = omega (arith, over-room instructionLines (instructionFrom words) y some-more (here-coded some-more .read) rest-long, ap (λ ps. length (bytesOf ps)) (parts-here some-more))
+
+    pub slots-turn : {place′ : ℕ} {l′ : List ℕ} → Over (bytesOf (partsThere words here)) place l place′ l′ → Laying instructionLines (instructionFrom words) n w at l₀ (left - 1) (here + 9) place′ l′
+    slots-turn {place′} {l′} d =
+        turn-over instructionLines (instructionFrom words) y some-more (here-coded some-more .read) rest-long (subst (λ (ps : List Part). Over (bytesOf ps) place l place′ l′) (sym (parts-here some-more)) d)

@@ -1,6 +1,8 @@
 // One loop for every run of rows of one kind.
 use line_bytes::put_row;
 use rows::Kind;
+use table_lines::bytes::put_there;
+use table_lines::slots::put_over;
 use table_rows::RowFrom;
 use table_rows::row_of;
 use table_rows::row_width;
@@ -8,11 +10,12 @@ ghost use Prim.Native.Nat.{_≤_};
 ghost use lib.ListN.{length};
 ghost use Rattle.format.specs.Reading.{many, leading, reached, Whole};
 ghost use Rattle.format.specs.Records.{sizeLimit};
+ghost use Rattle.format.specs.WellFormed.{instructionFrom};
 ghost use Rattle.format.specs.Words.{flatten};
 ghost use Rattle.line_bytes.specs.Laid.{Ready};
 ghost use Rattle.table_rows.specs.Rows.{rowFrom};
 ghost use Rattle.measure.specs.Measured.{rowLines};
-ghost use Rattle.write.specs.Wrote.{partsOf, Done};
+ghost use Rattle.write.specs.Wrote.{partsOf, instructionLines, Done};
 
 // The word where the next record begins, and the place past what was written.
 pub struct Wrote {
@@ -20,7 +23,7 @@ pub struct Wrote {
     pub place: usize,
 }
 
-pub fn write_rows(
+fn write_each(
     file: &[u8],
     words: &[i32],
     kind: Kind,
@@ -47,4 +50,53 @@ pub fn write_rows(
         left -= 1;
     }
     Wrote { next: here, place }
+}
+
+fn write_last_code(words: &[i32], n: usize, w: usize, out: &mut [u8], at: usize) -> Wrote
+    requires { ⌜ Whole (many (instructionFrom (now words)) n w) × Ready (partsOf (flatten instructionLines (leading (instructionFrom (now words)) n w))) at (now out) ⌝ }
+    ensures { λ r. ⌜ Done (partsOf (flatten instructionLines (leading (instructionFrom (now (words .entry))) n w))) (reached (instructionFrom (now (words .entry))) n w) at (now (out .entry)) r (now (out .exit)) ⌝ }
+{
+    let mut here = w;
+    let mut left = n;
+    let mut place = at;
+    while 0 < left {
+        place = put_there(words, here, out, place);
+        here += 9;
+        left -= 1;
+    }
+    Wrote { next: here, place }
+}
+
+// Instructions are most of a module: they are written by their words, and all but the last two of them by slots of four bytes.
+fn write_code(words: &[i32], n: usize, w: usize, out: &mut [u8], at: usize) -> Wrote
+    requires { ⌜ Whole (many (instructionFrom (now words)) n w) × Ready (partsOf (flatten instructionLines (leading (instructionFrom (now words)) n w))) at (now out) ⌝ }
+    ensures { λ r. ⌜ Done (partsOf (flatten instructionLines (leading (instructionFrom (now (words .entry))) n w))) (reached (instructionFrom (now (words .entry))) n w) at (now (out .entry)) r (now (out .exit)) ⌝ }
+{
+    let mut here = w;
+    let mut left = n;
+    let mut place = at;
+    while 2 < left {
+        place = put_over(words, here, out, place);
+        here += 9;
+        left -= 1;
+    }
+    write_last_code(words, left, here, out, place)
+}
+
+pub fn write_rows(
+    file: &[u8],
+    words: &[i32],
+    kind: Kind,
+    n: usize,
+    w: usize,
+    out: &mut [u8],
+    at: usize,
+) -> Wrote
+    requires { ⌜ (length (now file) ≤ sizeLimit) × Whole (many (rowFrom (now file) (now words) kind) n w) × Ready (partsOf (flatten (rowLines (now file)) (leading (rowFrom (now file) (now words) kind) n w))) at (now out) ⌝ }
+    ensures { λ r. ⌜ Done (partsOf (flatten (rowLines (now (file .entry))) (leading (rowFrom (now (file .entry)) (now (words .entry)) kind) n w))) (reached (rowFrom (now (file .entry)) (now (words .entry)) kind) n w) at (now (out .entry)) r (now (out .exit)) ⌝ }
+{
+    match kind {
+        Kind::Code => write_code(words, n, w, out, at),
+        _ => write_each(file, words, kind, n, w, out, at),
+    }
 }

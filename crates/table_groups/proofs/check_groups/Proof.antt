@@ -7,7 +7,7 @@ use Rattle.laws.proofs.Many.{scan-done, scan-turn, scan-stop, stopped}
 use Rattle.laws.proofs.Told.{told}
 use Rattle.table_rows.specs.View.{endFrom}
 use Rattle.table_groups.specs.Groups.{groupFrom}
-use Rattle.table_groups.proofs.Members.{ended}
+use Rattle.table_rows.proofs.Reach.{ended}
 use borrow.Author.Needs.{needs}
 use Rattle.table_groups.proofs.check_groups.Statement.{statement}
 use Rattle.table_groups.proofs.check_groups.Tie as tie

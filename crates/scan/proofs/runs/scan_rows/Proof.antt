@@ -1,9 +1,11 @@
 use mathlib.Core.Path.{_≡_, refl, sym, _∙_}
 use native.Mathlib.Omega.{arith}
 use Rattle.format.specs.Reading.{many, endOf}
-use Rattle.laws.proofs.Many.{scan-done, scan-turn, scan-stop}
+use Rattle.laws.proofs.Many.{scan-done}
 use Rattle.laws.proofs.Told.{told}
-use Rattle.rows.specs.Rows.{rowAt, rowRead}
+use Rattle.rows.specs.Rows.{rowAt}
+use Rattle.scan.specs.Ends.{endRead}
+use Rattle.scan.proofs.Facts.{pass-turn, pass-stop}
 use borrow.Author.Needs.{needs}
 use Rattle.scan.proofs.runs.scan_rows.Statement.{statement}
 use Rattle.scan.proofs.runs.scan_rows.Tie as tie
@@ -22,13 +24,13 @@ returns : tie.Need-returns Inv-loop μ-loop
 returns c =
     let r = c .before .before .before in
     let l = r .before .before .loop in
-    sym (scan-stop _ (l .left) (l .here) (r .before .loop-test .taken) (told rowRead (r .read-row .ensures) (c .before .why .given .1))) ∙ l .inv
+    sym (pass-stop _ (l .left) (l .here) (r .before .loop-test .taken) (told endRead (r .skip-row .ensures) (c .before .why .given .1))) ∙ l .inv
 
 loop-again : tie.Need-loop-again Inv-loop μ-loop
 loop-again c =
     let r = c .before .before .before in
     let l = r .before .before .loop in
-    sym (scan-turn _ (l .left) (l .here) (r .before .loop-test .taken) (told rowRead (r .read-row .ensures) (c .before .next .given .1))) ∙ l .inv
+    sym (pass-turn _ (l .left) (l .here) (r .before .loop-test .taken) (told endRead (r .skip-row .ensures) (c .before .next .given .1))) ∙ l .inv
 
 returns-2 : tie.Need-returns-2 Inv-loop μ-loop
 returns-2 c = let l = c .before .loop in sym (scan-done _ (l .left) (l .here) (omega (arith, c .loop-test .left))) ∙ l .inv

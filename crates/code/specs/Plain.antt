@@ -1,0 +1,67 @@
+-- An instruction whose end its lengths tell: so many bytes are left that each operand it can have is whole, its opcode is one, and so are its
+-- modes.
+use Prim.Native.Nat.{ℕ, zero, suc, _+_, _/_, _%_, _^_}
+use mathlib.Core.Bool.{Bool, cond, _&&_}
+use mathlib.Core.List.{List}
+use mathlib.Core.Option.{Option, none, some}
+use lib.Dec.{leb, ltb}
+use lib.IntN.{ℤ, pos}
+use lib.ListN.{length}
+use Rattle.format.specs.declared.types.Cursor.{Cursor}
+use Rattle.format.specs.declared.instruction.AddressMode.{AddressMode}
+use Rattle.format.specs.declared.instruction.MiddleMode.{MiddleMode}
+use Rattle.format.specs.Reading.{Read, found, short, past}
+use Rattle.format.specs.Operands.{byte, operandAt}
+use Rattle.format.specs.Records.{modeOf, byMode, middleOf, byMiddle}
+
+-- how many bytes an operand has, by its first
+unfoldable pub width : ℕ → ℕ
+width b = cond (ltb b 128) 1 (cond (ltb b 192) 2 4)
+
+-- of four bytes, the bits of an operand beside its form; and what the highest of them is worth
+unfoldable pub bitsIn : ℕ → ℕ → ℕ
+bitsIn b window = cond (ltb b 128) (window / 2 ^ 24) (cond (ltb b 192) (window / 2 ^ 16 % 2 ^ 14) (window % 2 ^ 30))
+
+unfoldable pub halfOf : ℕ → ℕ
+halfOf b = cond (ltb b 128) (2 ^ 6) (cond (ltb b 192) (2 ^ 13) (2 ^ 29))
+
+-- an operand's value, where it is whole
+abbrev pub valueIn : Read ℤ → ℤ
+valueIn (found v next) = v
+valueIn short = pos 0
+
+unfoldable pub valueAt : List ℕ → Cursor → ℤ
+valueAt file c = valueIn (operandAt file c)
+
+unfoldable pub pastOperands : List ℕ → ℕ → Cursor → Cursor
+pastOperands file zero c = c
+pastOperands file (suc n) c = pastOperands file n (past c (width (byte file (c .at))))
+
+-- how many operands a mode has; for what is no mode, more than an instruction can have
+abbrev pub noMode : ℕ
+noMode = 9
+
+abbrev pub operandsFor : Option AddressMode → ℕ
+operandsFor (some mode) = byMode mode 0 1 2
+operandsFor none = noMode
+
+abbrev pub middlesFor : Option MiddleMode → ℕ
+middlesFor (some mode) = byMiddle mode 0 1
+middlesFor none = noMode
+
+-- of so many operands, the values of the first and the second
+abbrev pub firstOf : ℕ → List ℕ → Cursor → ℤ
+firstOf zero file c = pos 0
+firstOf (suc k) file c = valueAt file c
+
+abbrev pub secondOf : ℕ → List ℕ → Cursor → ℤ
+secondOf zero file c = pos 0
+secondOf (suc k) file c = firstOf k file (past c (width (byte file (c .at))))
+
+-- how many operands an addressing byte says
+unfoldable pub operandsIn : ℕ → ℕ
+operandsIn b = middlesFor (middleOf (b / 64)) + operandsFor (modeOf (b / 8 % 8)) + operandsFor (modeOf (b % 8))
+
+-- two bytes, and five operands of four
+unfoldable pub isPlain : List ℕ → Cursor → Bool
+isPlain file c = leb (c .at + 22) (length file) && (leb (byte file (c .at)) 175 && leb (operandsIn (byte file (c .at + 1))) 5)

@@ -1,0 +1,135 @@
+// An instruction so far from the file's end that each operand it can have is whole, with an opcode and modes that are some: its numbers are
+// read with no refusal in sight, so that the answers are plain values.
+use bits::be32;
+use bits::signed;
+use format::types::Cursor;
+use values::opcode::is_opcode;
+ghost use mathlib.Core.Path.{_≡_};
+ghost use Prim.Native.Nat.{_+_, _/_, _≤_, _<_};
+ghost use lib.ListN.{length};
+ghost use Rattle.format.specs.Records.{modeOf, middleOf};
+ghost use Rattle.code.specs.Plain as Spec;
+
+// An operand's length, by its first byte. Three arms of constants are selects: no jump that could be guessed wrong.
+pub fn width(b: u8) -> usize
+    ensures { λ r. ⌜ r ≡ Spec.width b ⌝ }
+{
+    match b {
+        0..=127 => 1,
+        128..=191 => 2,
+        192..=255 => 4,
+    }
+}
+
+// The operands of each mode, four bits a mode: a table that stands in one number, where an array would be built at each use.
+pub fn operands_for(mode: u8) -> u32
+    requires { ⌜ mode < 8 ⌝ }
+    ensures { λ r. ⌜ r ≡ Spec.operandsFor (modeOf mode) ⌝ }
+{
+    (0x9922_0111 >> (4 * (mode as u32))) % 16
+}
+
+// The middle operands that an addressing byte says: one or none.
+pub fn middles_in(b: u8) -> u32
+    ensures { λ r. ⌜ r ≡ Spec.middlesFor (middleOf (b / 64)) ⌝ }
+{
+    match b {
+        0..=63 => 0,
+        64..=255 => 1,
+    }
+}
+
+pub fn operands_in(b: u8) -> u32
+    ensures { λ r. ⌜ r ≡ Spec.operandsIn b ⌝ }
+{
+    middles_in(b) + operands_for((b >> 3) % 8) + operands_for(b % 8)
+}
+
+pub fn is_plain(file: &[u8], c: Cursor) -> bool
+    ensures { λ r. ⌜ r ≡ Spec.isPlain (now (file .entry)) c ⌝ }
+{
+    let at = c.at;
+    if file.len() < 22 {
+        return false;
+    }
+    if file.len() - 22 < at {
+        return false;
+    }
+    if !is_opcode(file[at]) {
+        return false;
+    }
+    operands_in(file[at + 1]) <= 5
+}
+
+// The bits of an operand beside its form, of the four bytes from its first on.
+fn bits_in(b: u8, window: u32) -> u32
+    ensures { λ r. ⌜ r ≡ Spec.bitsIn b window ⌝ }
+{
+    match b {
+        0..=127 => window >> 24,
+        128..=191 => (window >> 16) % 0x4000,
+        192..=255 => window % 0x4000_0000,
+    }
+}
+
+// What the highest of them is worth.
+fn half_of(b: u8) -> u32
+    ensures { λ r. ⌜ r ≡ Spec.halfOf b ⌝ }
+{
+    match b {
+        0..=127 => 0x40,
+        128..=191 => 0x2000,
+        192..=255 => 0x2000_0000,
+    }
+}
+
+// The four bytes are one read, and the form chooses among numbers: no jump on it either.
+fn value_at(file: &[u8], c: Cursor) -> i32
+    requires { ⌜ c .at + 4 ≤ length (now file) ⌝ }
+    ensures { λ r. ⌜ r ≡ Spec.valueAt (now (file .entry)) c ⌝ }
+{
+    let at = c.at;
+    let b = file[at];
+    let window = be32(b, file[at + 1], file[at + 2], file[at + 3]);
+    signed(half_of(b), bits_in(b, window))
+}
+
+// Of n operands, the first's value.
+pub fn first_of(file: &[u8], n: u32, c: Cursor) -> i32
+    requires { ⌜ c .at + 4 ≤ length (now file) ⌝ }
+    ensures { λ r. ⌜ r ≡ Spec.firstOf n (now (file .entry)) c ⌝ }
+{
+    if n == 0 {
+        return 0;
+    }
+    value_at(file, c)
+}
+
+// And the second's.
+pub fn second_of(file: &[u8], n: u32, c: Cursor) -> i32
+    requires { ⌜ c .at + 8 ≤ length (now file) ⌝ }
+    ensures { λ r. ⌜ r ≡ Spec.secondOf n (now (file .entry)) c ⌝ }
+{
+    if n < 2 {
+        return 0;
+    }
+    let at = c.at;
+    value_at(file, c.past(width(file[at])))
+}
+
+// The place past n operands, of which there are two at most.
+pub fn past_two(file: &[u8], n: u32, c: Cursor) -> Cursor
+    requires { ⌜ (n ≤ 2) × (c .at + 8 ≤ length (now file)) ⌝ }
+    ensures { λ r. ⌜ r ≡ Spec.pastOperands (now (file .entry)) n c ⌝ }
+{
+    if n == 0 {
+        return c;
+    }
+    let at = c.at;
+    let d = c.past(width(file[at]));
+    if n == 1 {
+        return d;
+    }
+    let at2 = d.at;
+    d.past(width(file[at2]))
+}

@@ -1,0 +1,53 @@
+// Where an instruction ends, for the first pass: no record is built. Almost always the lengths tell it; the rest is read.
+use crate::InstructionRead;
+use crate::plain::is_plain;
+use crate::plain::operands_in;
+use crate::plain::width;
+use crate::read_instruction;
+use format::refusal::Refusal;
+use format::types::Cursor;
+ghost use mathlib.Core.Path.{_≡_};
+ghost use Prim.Native.Nat.{_+_, _*_, _≤_};
+ghost use lib.ListN.{length};
+ghost use Rattle.format.specs.Reading.{endOf};
+ghost use Rattle.format.specs.Sections.{instructionAt};
+ghost use Rattle.code.specs.Plain as Spec;
+ghost use Rattle.code.specs.View.{instructionEnd};
+
+pub enum InstructionEnd {
+    Done { next: Cursor },
+    Refused(Refusal),
+}
+
+fn past_operands(file: &[u8], n: u32, c: Cursor) -> Cursor
+    requires { ⌜ c .at + n * 4 ≤ length (now file) ⌝ }
+    ensures { λ r. ⌜ r ≡ Spec.pastOperands (now (file .entry)) n c ⌝ }
+{
+    let mut here = c;
+    let mut left = n;
+    while 0 < left {
+        let at = here.at;
+        here = here.past(width(file[at]));
+        left -= 1;
+    }
+    here
+}
+
+pub fn skip_instruction(file: &[u8], c: Cursor) -> InstructionEnd
+    ensures { λ r. ⌜ instructionEnd r ≡ endOf (instructionAt (now (file .entry)) c) ⌝ }
+{
+    if is_plain(file, c) {
+        let at = c.at;
+        let n = operands_in(file[at + 1]);
+        return InstructionEnd::Done {
+            next: past_operands(file, n, c.past(2)),
+        };
+    }
+    match read_instruction(file, c) {
+        InstructionRead::Refused(why) => InstructionEnd::Refused(why),
+        InstructionRead::Got {
+            instruction: _,
+            next,
+        } => InstructionEnd::Done { next },
+    }
+}

@@ -1,0 +1,100 @@
+// The words of instructions. Where an instruction is plain its numbers are stored as they are read: no record is built, and no refusal is in sight.
+use crate::runs::Filled;
+use code::InstructionRead;
+use code::plain::first_of;
+use code::plain::is_plain;
+use code::plain::middles_in;
+use code::plain::operands_for;
+use code::plain::past_two;
+use code::plain::second_of;
+use code::read_instruction;
+use format::types::Cursor;
+use rows::Kind;
+use store::put_instruction;
+use store::put_three;
+use store::put_two;
+ghost use mathlib.Core.Bool.{true};
+ghost use mathlib.Core.List.{[], _∷_};
+ghost use mathlib.Core.Path.{_≡_};
+ghost use Prim.Native.Nat.{_+_, _/_, _≤_, _<_};
+ghost use lib.IntN.{pos};
+ghost use lib.ListN.{length};
+ghost use Rattle.code.specs.Plain.{firstOf, secondOf, pastOperands, operandsFor, middlesFor, isPlain};
+ghost use Rattle.format.specs.Put.{put};
+ghost use Rattle.format.specs.Reading.{leading};
+ghost use Rattle.format.specs.Records.{modeOf, middleOf};
+ghost use Rattle.format.specs.Sections.{instructionAt};
+ghost use Rattle.format.specs.Words.{flatten, instructionWidth, instructionWords};
+ghost use Rattle.rows.specs.Rows.{rowAt, rowWords};
+ghost use Rattle.fill.specs.Filled.{Rows, Stored, One, wordsIn};
+
+// A source or a destination: its mode and the registers that the mode has.
+fn put_addressed(file: &[u8], mode: u8, c: Cursor, words: &mut [i32], w: usize) -> Cursor
+    requires { ⌜ (mode < 8) × (operandsFor (modeOf mode) ≤ 2) × (c .at + 8 ≤ length (now file)) × (w + 3 ≤ length (now words)) ⌝ }
+    ensures { λ r. ⌜ (r ≡ pastOperands (now (file .entry)) (operandsFor (modeOf mode)) c) × (now (words .exit) ≡ put w (pos mode ∷ firstOf (operandsFor (modeOf mode)) (now (file .entry)) c ∷ secondOf (operandsFor (modeOf mode)) (now (file .entry)) c ∷ []) (now (words .entry))) ⌝ }
+{
+    let n = operands_for(mode);
+    let first = first_of(file, n, c);
+    let second = second_of(file, n, c);
+    put_three(words, w, mode as i32, first, second);
+    past_two(file, n, c)
+}
+
+fn put_middle(file: &[u8], b: u8, c: Cursor, words: &mut [i32], w: usize)
+    requires { ⌜ (c .at + 4 ≤ length (now file)) × (w + 2 ≤ length (now words)) ⌝ }
+    ensures { λ _. ⌜ now (words .exit) ≡ put w (pos (b / 64) ∷ firstOf (middlesFor (middleOf (b / 64))) (now (file .entry)) c ∷ []) (now (words .entry)) ⌝ }
+{
+    let first = first_of(file, middles_in(b), c);
+    put_two(words, w, (b >> 6) as i32, first);
+}
+
+fn put_plain(file: &[u8], c: Cursor, words: &mut [i32], w: usize) -> Cursor
+    requires { ⌜ (isPlain (now file) c ≡ true) × (w + instructionWidth ≤ length (now words)) ⌝ }
+    ensures { λ r. ⌜ Stored instructionWords (instructionAt (now (file .entry)) c) c w (now (words .entry)) r (now (words .exit)) ⌝ }
+{
+    let at = c.at;
+    let b = file[at + 1];
+    let middle = c.past(2);
+    let source = past_two(file, middles_in(b), middle);
+    words[w] = file[at] as i32;
+    let destination = put_addressed(file, (b >> 3) % 8, source, words, w + 1);
+    put_middle(file, b, middle, words, w + 4);
+    put_addressed(file, b % 8, destination, words, w + 6)
+}
+
+// An instruction, stored; where it is refused, nothing.
+fn fill_instruction(file: &[u8], c: Cursor, words: &mut [i32], w: usize) -> Filled
+    requires { ⌜ w + length (wordsIn rowWords (rowAt (now file) Kind.Code c)) ≤ length (now words) ⌝ }
+    ensures { λ r. ⌜ One rowWords (rowAt (now (file .entry)) Kind.Code) c w (now (words .entry)) r (now (words .exit)) ⌝ }
+{
+    if is_plain(file, c) {
+        let next = put_plain(file, c, words, w);
+        return Filled { next, place: w + 9 };
+    }
+    match read_instruction(file, c) {
+        InstructionRead::Refused(_) => Filled { next: c, place: w },
+        InstructionRead::Got { instruction, next } => {
+            let place = put_instruction(words, w, instruction);
+            Filled { next, place }
+        }
+    }
+}
+
+pub fn fill_code(file: &[u8], n: usize, c: Cursor, words: &mut [i32], w: usize) -> Filled
+    requires { ⌜ w + length (flatten rowWords (leading (rowAt (now file) Kind.Code) n c)) ≤ length (now words) ⌝ }
+    ensures { λ r. ⌜ Rows (now (file .entry)) Kind.Code n c w (now (words .entry)) r (now (words .exit)) ⌝ }
+{
+    let mut here = c;
+    let mut left = n;
+    let mut place = w;
+    while 0 < left {
+        let one = fill_instruction(file, here, words, place);
+        if one.place == place {
+            return Filled { next: here, place };
+        }
+        here = one.next;
+        place = one.place;
+        left -= 1;
+    }
+    Filled { next: here, place }
+}
