@@ -2,16 +2,18 @@
 -- Assumes nothing.
 use Prim.Native.Nat.{ℕ, zero, suc, _+_, _-_, _*_, _/_, _%_, _^_, _≤_, _<_}
 use mathlib.Core.Path.{_≡_, refl, sym, ap, _∙_}
-use mathlib.Core.Bool.{Bool, true, false, _&&_}
+use mathlib.Core.Bool.{Bool, true, false, cond, _&&_}
 use mathlib.Core.List.{List}
 use mathlib.Core.Option.{Option, none, some}
 use native.Mathlib.Nat.{zero-add, suc-add}
 use native.Mathlib.Numerals.{sub-one}
 use native.Mathlib.Omega.{arith}
-use borrow.Author.Tests.{lt-ltb, le-ltb, lt-leb, le-leb, leb-true}
-use lib.Dec.{leb}
-use lib.IntN.{ℤ, pos}
+use borrow.Author.Tests.{lt-ltb, le-ltb, ltb-true, ltb-false, lt-leb, le-leb, leb-true}
+use lib.Dec.{leb, ltb}
+use lib.Bits.{bitAnd, and-mask, mask-lt}
+use lib.IntN.{ℤ, pos, negsuc, _-ℤ_}
 use lib.ListN.{length}
+use lib.Signed.{mag}
 use Rattle.bits.specs.Bits.{be16, be32, signed}
 use Rattle.format.specs.declared.types.Cursor.{Cursor}
 use Rattle.format.specs.declared.instruction.Operand.{Operand}
@@ -28,7 +30,7 @@ use Rattle.format.specs.Sections.{oneRegister, twoRegisters, addressedAt, middl
 use Rattle.laws.proofs.OperandCases.{byte-there, operand-low, operand-minus, operand-two, operand-four}
 use Rattle.laws.proofs.Truth.{and-both}
 use Rattle.reader.proofs.Facts.{less-128}
-use Rattle.code.specs.Plain.{width, bitsIn, halfOf, valueAt, pastOperands, operandsFor, middlesFor, firstOf, secondOf, operandsIn, isPlain}
+use Rattle.code.specs.Plain.{width, halfOf, shiftOf, raised, valueAt, pastOperands, operandsFor, middlesFor, firstOf, secondOf, operandsIn, isPlain}
 
 -- ---- an operand
 
@@ -346,18 +348,89 @@ module _ (b : ℕ) where
   unfolding halfOf
   half-four h = let l : 128 ≤ b = omega arith in rw (le-ltb b 128 l, le-ltb b 192 h)
 
-  module _ (window : ℕ) where
-    pub bits-one : b < 128 → bitsIn b window ≡ window / 2 ^ 24
-    unfolding bitsIn
-    bits-one h = rw (lt-ltb b 128 h)
+  pub shift-one : b < 128 → shiftOf b ≡ 24
+  unfolding shiftOf
+  shift-one h = rw (lt-ltb b 128 h)
 
-    pub bits-two : 128 ≤ b → b < 192 → bitsIn b window ≡ window / 2 ^ 16 % 2 ^ 14
-    unfolding bitsIn
-    bits-two l h = rw (le-ltb b 128 l, lt-ltb b 192 h)
+  pub shift-two : 128 ≤ b → b < 192 → shiftOf b ≡ 16
+  unfolding shiftOf
+  shift-two l h = rw (le-ltb b 128 l, lt-ltb b 192 h)
 
-    pub bits-four : 192 ≤ b → bitsIn b window ≡ window % 2 ^ 30
-    unfolding bitsIn
-    bits-four h = let l : 128 ≤ b = omega arith in rw (le-ltb b 128 l, le-ltb b 192 h)
+  pub shift-four : 192 ≤ b → shiftOf b ≡ 0
+  unfolding shiftOf
+  shift-four h = let l : 128 ≤ b = omega arith in rw (le-ltb b 128 l, le-ltb b 192 h)
+
+  -- a form's numbers: half of so many bits' range, and a shift that is one
+  pub record Form : Type 0 where
+    pub bits : ℕ
+    pub range : halfOf b + halfOf b ≡ 2 ^ bits
+    pub least : 1 ≤ halfOf b
+    pub most : halfOf b ≤ 2 ^ 29
+    pub shift : shiftOf b < 64
+    pub less : (n : ℕ) → n / 2 ^ shiftOf b ≤ n
+
+  formed : {h s : ℕ} (n : ℕ) → halfOf b ≡ h → shiftOf b ≡ s → h + h ≡ 2 ^ n → 1 ≤ h → h ≤ 2 ^ 29 → s < 64 → ((n : ℕ) → n / 2 ^ s ≤ n) → Form
+  formed n x y range least most shift less = record {
+    bits = n;
+    range = rw x range;
+    least = rw x least;
+    most = rw x most;
+    shift = rw y shift;
+    less = λ m. rw y (less m);
+  }
+
+  form-one : b < 128 → Form
+  form-one h = formed 7 (half-one h) (shift-one h) refl (omega arith) (omega arith) (omega arith) (λ n. omega arith)
+
+  form-by : (f : ℕ) → b / 64 ≡ f → Form
+  form-by zero e = form-one (omega arith)
+  form-by (suc zero) e = form-one (omega arith)
+  form-by (suc (suc zero)) e =
+      formed 14 (half-two (omega arith) (omega arith)) (shift-two (omega arith) (omega arith)) refl (omega arith) (omega arith) (omega arith)
+      (λ n. omega arith)
+  form-by (suc (suc (suc n))) e = formed 30 (half-four (omega arith)) (shift-four (omega arith)) refl (omega arith) (omega arith) (omega arith) (λ n. omega arith)
+
+  pub form-of : Form
+  form-of = form-by (b / 64) refl
+
+  pub masked : (n : ℕ) → bitAnd n (halfOf b + halfOf b - 1) ≡ n % (halfOf b + halfOf b)
+  masked n = rw (form-of .range) (and-mask n (form-of .bits))
+
+  pub half-fits : halfOf b < 2 ^ 31
+  half-fits = omega (arith, form-of .most)
+
+  masked-most : (n : ℕ) → bitAnd n (halfOf b + halfOf b - 1) < 2 ^ 30 + 1
+  masked-most n = let f = form-of in omega (arith, f .most, f .range, rw (← f .range) at (mask-lt n (f .bits)))
+
+  pub raised-is : (window : ℕ) → raised b window ≡ bitAnd (window / 2 ^ shiftOf b + halfOf b) (halfOf b + halfOf b - 1)
+  unfolding raised
+  raised-is window = sym (masked (window / 2 ^ shiftOf b + halfOf b))
+
+  pub masked-fits : (n : ℕ) → bitAnd n (halfOf b + halfOf b - 1) < 2 ^ 32
+  masked-fits n = omega (arith, masked-most n)
+
+  pub raised-fits : (window : ℕ) → raised b window < 2 ^ 31
+  raised-fits window = let n = window / 2 ^ shiftOf b + halfOf b in omega (arith, raised-is window, masked-most n)
+
+minus : (a b : ℕ) → pos a -ℤ pos b ≡ cond (ltb a b) (negsuc (b - suc a)) (pos (a - b))
+minus a zero = let n : 0 ≤ a = omega arith in rw (le-ltb a 0 n) (ap pos (omega arith))
+minus a (suc b) = refl
+
+pub minus-fits : (a b : ℕ) → a < 2 ^ 31 → b < 2 ^ 31 → mag (pos a -ℤ pos b) < 2 ^ 31
+minus-fits a b h k = rw (minus a b) (minus-by (ltb a b))
+  where
+    minus-by : (t : Bool) → mag (cond t (negsuc (b - suc a)) (pos (a - b))) < 2 ^ 31
+    minus-by true = omega arith
+    minus-by false = omega arith
+
+-- bits that were raised by half their range, less that half
+module _ (h u r : ℕ) (low : u < h → r ≡ u + h) (high : h ≤ u → r + h ≡ u) (most : u < h + h) where
+  unraised-by : (t : Bool) → ltb u h ≡ t → cond (ltb r h) (negsuc (h - suc r)) (pos (r - h)) ≡ signed h u
+  unraised-by true e = let i = low (ltb-true u h e) in let l : h ≤ r = omega (arith, i) in rw (e, le-ltb r h l) (ap pos (omega (arith, i)))
+  unraised-by false e = let i = high (ltb-false u h e) in let l : r < h = omega (arith, i) in rw (e, lt-ltb r h l) (ap negsuc (omega (arith, i)))
+
+  unraised : pos r -ℤ pos h ≡ signed h u
+  unraised = minus r h ∙ unraised-by (ltb u h) refl
 
 module _ (file : List ℕ) (c : Cursor) where
   abbrev first : ℕ
@@ -366,35 +439,36 @@ module _ (file : List ℕ) (c : Cursor) where
   abbrev pub windowAt : ℕ
   windowAt = be32 (byte file (c .at)) (byte file (c .at + 1)) (byte file (c .at + 2)) (byte file (c .at + 3))
 
-  -- the value, and that its bits are not too many
-  pub record Valued : Type 0 where
-    pub value : signed (halfOf (byte file (c .at))) (bitsIn (byte file (c .at)) windowAt) ≡ valueAt file c
-    pub most : bitsIn (byte file (c .at)) windowAt < halfOf (byte file (c .at)) + halfOf (byte file (c .at))
-    pub half : halfOf (byte file (c .at)) ≤ 2 ^ 31
+  -- the raised bits less what they were raised by
+  abbrev pub Valued : Type 0
+  Valued = pos (raised (byte file (c .at)) windowAt) -ℤ pos (halfOf (byte file (c .at))) ≡ valueAt file c
 
   module _ (room : c .at + 4 ≤ length file) (bytes : (i : ℕ) → byte file i < 256) where
-    valued-by : {h u : ℕ} {q : Cursor} → halfOf first ≡ h → bitsIn first windowAt ≡ u → operandAt file c ≡ found (signed h u) q → u < h + h → h ≤ 2 ^ 31 → Valued
-    unfolding valueAt
-    valued-by x y e m t = record { value = rw (x, y, e); most = rw (x, y) m; half = rw x t }
+    abbrev raisedBy : ℕ → ℕ → ℕ
+    raisedBy s h = (windowAt / 2 ^ s + h) % (h + h)
 
-    bits-first : first < 128 → bitsIn first windowAt ≡ first
-    bits-first h = bits-one first windowAt h ∙ omega (arith, bytes (c .at + 1), bytes (c .at + 2), bytes (c .at + 3))
+    valued-by : (u : ℕ) {s h : ℕ} {q : Cursor} → shiftOf first ≡ s → halfOf first ≡ h → operandAt file c ≡ found (signed h u) q
+        → (u < h → raisedBy s h ≡ u + h) → (h ≤ u → raisedBy s h + h ≡ u) → u < h + h → Valued
+    unfolding valueAt raised
+    valued-by u {s} {h} x y e low high most = rw (x, y, e) (unraised h u (raisedBy s h) low high most)
 
     valued-form : (f : ℕ) → first / 64 ≡ f → Valued
     valued-form zero e =
         let low : pos first ≡ signed (2 ^ 6) first = let h : first < 64 = omega arith in rw (lt-ltb first 64 h) in
-        valued-by (half-one first (omega arith)) (bits-first (omega arith)) (operand-low file c e (omega arith) ∙ ap (λ (v : ℤ). found v (past c 1)) low) (omega arith) (omega arith)
+        valued-by first (shift-one first (omega arith)) (half-one first (omega arith)) (operand-low file c e (omega arith) ∙ ap (λ (v : ℤ). found v (past c 1)) low)
+        (λ i. omega (arith, bytes (c .at + 1), bytes (c .at + 2), bytes (c .at + 3))) (λ i. omega arith) (omega arith)
     valued-form (suc zero) e =
         let minus = sym (less-128 first (omega arith) (omega arith)) in
-        valued-by (half-one first (omega arith)) (bits-first (omega arith)) (operand-minus file c e (omega arith) ∙ ap (λ (v : ℤ). found v (past c 1)) minus) (omega arith) (omega arith)
+        valued-by first (shift-one first (omega arith)) (half-one first (omega arith)) (operand-minus file c e (omega arith) ∙ ap (λ (v : ℤ). found v (past c 1)) minus)
+        (λ i. omega arith) (λ i. omega (arith, bytes (c .at + 1), bytes (c .at + 2), bytes (c .at + 3))) (omega arith)
     valued-form (suc (suc zero)) e =
-        let u : bitsIn first windowAt ≡ be16 (first % 64) (byte file (c .at + 1))
-        = bits-two first windowAt (omega arith) (omega arith) ∙ omega (arith, bytes (c .at + 1), bytes (c .at + 2), bytes (c .at + 3)) in
-        valued-by (half-two first (omega arith) (omega arith)) u (operand-two file c e (omega arith)) (omega (arith, bytes (c .at + 1))) (omega arith)
+        valued-by (be16 (first % 64) (byte file (c .at + 1))) (shift-two first (omega arith) (omega arith)) (half-two first (omega arith) (omega arith)) (operand-two file c e (omega arith))
+        (λ i. omega (arith, bytes (c .at + 1), bytes (c .at + 2), bytes (c .at + 3))) (λ i. omega (arith, bytes (c .at + 1), bytes (c .at + 2), bytes (c .at + 3)))
+        (omega (arith, bytes (c .at + 1)))
     valued-form (suc (suc (suc n))) e =
-        let u : bitsIn first windowAt ≡ be32 (first % 64) (byte file (c .at + 1)) (byte file (c .at + 2)) (byte file (c .at + 3))
-        = bits-four first windowAt (omega arith) ∙ omega (arith, bytes (c .at), bytes (c .at + 1), bytes (c .at + 2), bytes (c .at + 3)) in
-        valued-by (half-four first (omega arith)) u (operand-four file c (omega arith) room) (omega (arith, bytes (c .at + 1), bytes (c .at + 2), bytes (c .at + 3))) (omega arith)
+        valued-by (be32 (first % 64) (byte file (c .at + 1)) (byte file (c .at + 2)) (byte file (c .at + 3))) (shift-four first (omega arith)) (half-four first (omega arith)) (operand-four file c (omega arith) room)
+        (λ i. omega (arith, bytes (c .at), bytes (c .at + 1), bytes (c .at + 2), bytes (c .at + 3))) (λ i. omega (arith, bytes (c .at), bytes (c .at + 1), bytes (c .at + 2), bytes (c .at + 3)))
+        (omega (arith, bytes (c .at + 1), bytes (c .at + 2), bytes (c .at + 3)))
 
     pub valued-at : Valued
     valued-at = valued-form (first / 64) refl

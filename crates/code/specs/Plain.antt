@@ -18,12 +18,16 @@ use Rattle.format.specs.Records.{modeOf, byMode, middleOf, byMiddle}
 unfoldable pub width : ℕ → ℕ
 width b = cond (ltb b 128) 1 (cond (ltb b 192) 2 4)
 
--- of four bytes, the bits of an operand beside its form; and what the highest of them is worth
-unfoldable pub bitsIn : ℕ → ℕ → ℕ
-bitsIn b window = cond (ltb b 128) (window / 2 ^ 24) (cond (ltb b 192) (window / 2 ^ 16 % 2 ^ 14) (window % 2 ^ 30))
-
+-- what the highest bit of an operand beside its form is worth; how far from the end of four bytes those bits end; and the bits, with half their
+-- range added, so many of them as there are
 unfoldable pub halfOf : ℕ → ℕ
 halfOf b = cond (ltb b 128) (2 ^ 6) (cond (ltb b 192) (2 ^ 13) (2 ^ 29))
+
+unfoldable pub shiftOf : ℕ → ℕ
+shiftOf b = cond (ltb b 128) 24 (cond (ltb b 192) 16 0)
+
+unfoldable pub raised : ℕ → ℕ → ℕ
+raised b window = (window / 2 ^ shiftOf b + halfOf b) % (halfOf b + halfOf b)
 
 -- an operand's value, where it is whole
 abbrev pub valueIn : Read ℤ → ℤ

@@ -1,7 +1,6 @@
 // An instruction so far from the file's end that each operand it can have is whole, with an opcode and modes that are some: its numbers are
 // read with no refusal in sight, so that the answers are plain values.
 use bits::be32;
-use bits::signed;
 use format::types::Cursor;
 use values::opcode::is_opcode;
 ghost use mathlib.Core.Path.{_≡_};
@@ -61,18 +60,7 @@ pub fn is_plain(file: &[u8], c: Cursor) -> bool
     operands_in(file[at + 1]) <= 5
 }
 
-// The bits of an operand beside its form, of the four bytes from its first on.
-fn bits_in(b: u8, window: u32) -> u32
-    ensures { λ r. ⌜ r ≡ Spec.bitsIn b window ⌝ }
-{
-    match b {
-        0..=127 => window >> 24,
-        128..=191 => (window >> 16) % 0x4000,
-        192..=255 => window % 0x4000_0000,
-    }
-}
-
-// What the highest of them is worth.
+// What the highest bit of an operand beside its form is worth.
 fn half_of(b: u8) -> u32
     ensures { λ r. ⌜ r ≡ Spec.halfOf b ⌝ }
 {
@@ -83,7 +71,27 @@ fn half_of(b: u8) -> u32
     }
 }
 
-// The four bytes are one read, and the form chooses among numbers: no jump on it either.
+// How far from the end of four bytes those bits end.
+fn shift_of(b: u8) -> u32
+    ensures { λ r. ⌜ r ≡ Spec.shiftOf b ⌝ }
+{
+    match b {
+        0..=127 => 24,
+        128..=191 => 16,
+        192..=255 => 0,
+    }
+}
+
+// The value of those bits and half their range: no number is below zero, so that no jump is on the sign.
+fn raised(b: u8, window: u32) -> u32
+    ensures { λ r. ⌜ r ≡ Spec.raised b window ⌝ }
+{
+    let half = half_of(b) as u64;
+    let bits = (window as u64) >> shift_of(b);
+    ((bits + half) & (half + half - 1)) as u32
+}
+
+// The form chooses among numbers: no jump is on it either.
 fn value_at(file: &[u8], c: Cursor) -> i32
     requires { ⌜ c .at + 4 ≤ length (now file) ⌝ }
     ensures { λ r. ⌜ r ≡ Spec.valueAt (now (file .entry)) c ⌝ }
@@ -91,7 +99,7 @@ fn value_at(file: &[u8], c: Cursor) -> i32
     let at = c.at;
     let b = file[at];
     let window = be32(b, file[at + 1], file[at + 2], file[at + 3]);
-    signed(half_of(b), bits_in(b, window))
+    (raised(b, window) as i32) - (half_of(b) as i32)
 }
 
 // Of n operands, the first's value.

@@ -1,4 +1,6 @@
 // 4, data: an item's count and offset, then its kind, then its value, which is passed over.
+pub mod skip;
+
 use format::module::DataItem;
 use format::module::DataKind;
 use format::module::MaybeDataKind;
@@ -49,7 +51,7 @@ pub enum ItemRead {
 }
 
 // The count of the code byte's low half, or the operand where that is 0.
-fn read_elements(file: &[u8], code: u8, c: Cursor) -> CountRead
+pub fn read_elements(file: &[u8], code: u8, c: Cursor) -> CountRead
     ensures { λ r. ⌜ countRead r ≡ elementsAt (now (file .entry)) code c ⌝ }
 {
     let inline = code & 0x0F;
@@ -62,7 +64,7 @@ fn read_elements(file: &[u8], code: u8, c: Cursor) -> CountRead
     }
 }
 
-fn read_offset(file: &[u8], c: Cursor) -> OffsetRead
+pub fn read_offset(file: &[u8], c: Cursor) -> OffsetRead
     ensures { λ r. ⌜ offsetRead r ≡ offsetAt (now (file .entry)) c ⌝ }
 {
     let NumberRead::Got {
@@ -129,7 +131,7 @@ fn pass_bytes(file: &[u8], n: usize, c: Cursor) -> PassRead
     PassRead::Got { next }
 }
 
-fn pass_value(file: &[u8], kind: DataKind, n: usize, c: Cursor) -> PassRead
+pub fn pass_value(file: &[u8], kind: DataKind, n: usize, c: Cursor) -> PassRead
     requires { ⌜ n < 2 ^ 31 ⌝ }
     ensures { λ r. ⌜ passRead r ≡ passOver (now (file .entry)) (shapeOf kind) n c ⌝ }
 {

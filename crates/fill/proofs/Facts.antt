@@ -1,29 +1,32 @@
--- What the loops that fill share, and the words of a group: those of its head, and then those of its rows.
+-- One row in a run of them, and what the loops that fill share; and the words of a group: those of its head, and then those of its rows.
 -- Assumes nothing.
 use Prim.Native.Nat.{ℕ, _+_, _-_, _≤_, _<_}
-use mathlib.Core.Path.{_≡_, refl, ap, _∙_}
+use mathlib.Core.Path.{_≡_, refl, sym, ap, _∙_}
 use mathlib.Core.Bool.{true, false}
 use mathlib.Core.List.{List, [], _∷_, _++_}
+use mathlib.Core.Option.{none, some}
 use native.Mathlib.Omega.{arith}
 use lib.IntN.{ℤ, pos}
 use lib.Signed.{mag}
 use lib.ListN.{length, length-append}
 use Rattle.format.specs.declared.types.Cursor.{Cursor}
+use Rattle.format.specs.declared.module.DataItem.{DataItem}
 use Rattle.format.specs.declared.module.Handler.{Handler}
 use Rattle.format.specs.declared.refusal.Refusal.{Refusal}
-use Rattle.format.specs.declared.refusal.Refusal.the-variants.{Ended}
+use Rattle.format.specs.declared.refusal.Refusal.the-variants.{Ended, TooLarge}
 use Rattle.format.specs.Put.{put}
 use Rattle.format.specs.Reading.{Step, got, refused, found, short, Reads, andThen, give, thenPlace, many, leading, reached, Whole}
 use Rattle.format.specs.Operands.{operandAt}
 use Rattle.format.specs.Words.{flatten, caseWords, handlerWords}
-use Rattle.format.specs.Sections.{nowhere, countIn, functionAt, importAt, caseAt, lastAt, casesAt, headAt, handlerAt, closing, underFlag}
-use Rattle.laws.proofs.Fills.{Filling, fits, turn}
+use Rattle.format.specs.Sections.{nowhere, itemAt, countIn, functionAt, importAt, caseAt, lastAt, casesAt, headAt, handlerAt, closing, underFlag}
+use Rattle.laws.proofs.Fills.{Filling, fits, turn, cut}
 use Rattle.laws.proofs.Flatten.{flatten-append}
 use Rattle.laws.proofs.Groups.{Cased}
 use Rattle.laws.proofs.Many.{many-length}
 use Rattle.laws.proofs.Parsed.{flag-not}
-use Rattle.laws.proofs.Put.{put-next}
+use Rattle.laws.proofs.Put.{put-next, put-none}
 use Rattle.laws.proofs.Scans.{renamed, leading-renamed, reached-renamed, flatten-renamed}
+use Rattle.laws.proofs.Until.{someOf}
 use Rattle.laws.proofs.Whole.{whole-part, whole-got, whole-many, whole-first, whole-next}
 use Rattle.rows.specs.declared.Kind.the-variants as K
 use Rattle.rows.specs.declared.Row.{Row}
@@ -35,18 +38,69 @@ use Rattle.rows.specs.Groups.{groupAt, groupWords, sectionOf, bitOf, flagOf, fl
 use Rattle.fill.specs.declared.runs.Filled.{Filled}
 use Rattle.fill.specs.Filled.{Done, Ready, One, wordsIn, listIn}
 
--- the place and the words as the code has them
-pub moved : {P A : Type 0} {words : A → List ℤ} {read : Reads P A} {n : ℕ} {from : P} {w : ℕ} {l₀ : List ℤ} {left : ℕ} {here : P} {place place′ : ℕ} {l l′ : List ℤ}
-    → Filling words read n from w l₀ left here place l → place′ ≡ place → l′ ≡ l → Filling words read n from w l₀ left here place′ l′
-moved f p q = rw (p, q) f
+-- ---- one row, stored where it is read
 
--- a row that is known
-pub row-fits : (w : ℕ) {n : ℕ} {r s : Row} → w + length (rowWords r) ≤ n → r ≡ s → w + length (rowWords s) ≤ n
-row-fits w h e = rw e at h
+-- every row has words
+row-some : (r : Row) → 0 < length (rowWords r)
+row-some (R.Instruction i) = omega arith
+row-some (R.Type t) = omega arith
+row-some (R.Item d) = omega arith
+row-some (R.Export e) = omega arith
+row-some (R.Function f) = omega arith
+row-some (R.Case c) = omega arith
 
-pub row-put : (w : ℕ) (l : List ℤ) {r s : Row} {place : ℕ} {l′ : List ℤ} → r ≡ s → (place ≡ w + length (rowWords s)) × (l′ ≡ put w (rowWords s) l)
-    → (place ≡ w + length (rowWords r)) × (l′ ≡ put w (rowWords r) l)
-row-put w l e h = rw e h
+-- a record by its name as a row
+module _ {A : Type 0} (name : A → Row) (read : Reads Cursor A) (c : Cursor) (w : ℕ) where
+  module _ {x : A} {q : Cursor} (e : read c ≡ got x q) where
+    pub one-room : {k : ℕ} → w + length (wordsIn rowWords (renamed name read c)) ≤ k → w + length (rowWords (name x)) ≤ k
+    one-room h = rw e at h
+
+    pub one-stored : {l : List ℤ} {r : Filled} {now : List ℤ} → r .next ≡ q → (r .place ≡ w + length (rowWords (name x))) × (now ≡ put w (rowWords (name x)) l)
+        → One rowWords (renamed name read) c w l r now
+    one-stored a h = record { stopped = rw e a; placed = rw e (h .0); holds = rw e (h .1) }
+
+  pub one-refused : (l : List ℤ) {why : Refusal} → read c ≡ refused why → One rowWords (renamed name read) c w l (record { next = c; place = w }) l
+  one-refused l e = record { stopped = rw e; placed = rw e (omega arith); holds = rw e (sym (put-none w l)) }
+
+-- the end of the data is no item
+module _ (file : List ℕ) (c : Cursor) where
+  pub item-got : {d : DataItem} {q : Cursor} → itemAt file c ≡ got (some d) q → someOf (itemAt file) TooLarge c ≡ got d q
+  item-got e = rw e
+
+  pub item-none : {q : Cursor} → itemAt file c ≡ got none q → someOf (itemAt file) TooLarge c ≡ refused TooLarge
+  item-none e = rw e
+
+  pub item-refused : {why : Refusal} → itemAt file c ≡ refused why → someOf (itemAt file) TooLarge c ≡ refused why
+  item-refused e = rw e
+
+-- the loop: one more, or the end where nothing was stored
+module _ (read : Reads Cursor Row) {n : ℕ} {from : Cursor} {w : ℕ} {l₀ : List ℤ} {left : ℕ} {here : Cursor} {place : ℕ} {l : List ℤ}
+    (f : Filling rowWords read n from w l₀ left here place l) (room : w + length (flatten rowWords (leading read n from)) ≤ length l₀) (more : 0 < left) where
+  ready-by : (s : Step Cursor Row) → read here ≡ s → place + length (wordsIn rowWords (read here)) ≤ length l
+  ready-by (got x q) e = rw e (fits rowWords read f room more e)
+  ready-by (refused why) e = rw e (omega (arith, f .placed, f .same))
+
+  pub row-ready : place + length (wordsIn rowWords (read here)) ≤ length l
+  row-ready = ready-by (read here) refl
+
+  module _ {r : Filled} {now : List ℤ} (one : One rowWords read here place l r now) where
+    stops-by : (s : Step Cursor Row) → read here ≡ s → r .place ≡ place
+        → Done (flatten rowWords (leading read n from)) (reached read n from) w l₀ (record { next = here; place = place }) now
+    stops-by (got x q) e z = let o = rw e at one in absurd (omega (arith, o .placed, row-some x))
+    stops-by (refused why) e z =
+        let o = rw e at one in
+        let d = cut rowWords read f more e in
+        record { stopped = d .stopped; placed = d .placed; holds = o .holds ∙ put-none place l ∙ d .holds }
+
+    pub row-stops : r .place ≡ place → Done (flatten rowWords (leading read n from)) (reached read n from) w l₀ (record { next = here; place = place }) now
+    row-stops = stops-by (read here) refl
+
+    goes-by : (s : Step Cursor Row) → read here ≡ s → (r .place ≡ place → ⊥) → Filling rowWords read n from w l₀ (left - 1) (r .next) (r .place) now
+    goes-by (got x q) e z = let o = rw e at one in rw (o .stopped, o .placed, o .holds) (turn rowWords read f room more e)
+    goes-by (refused why) e z = let o = rw e at one in absurd (z (omega (arith, o .placed)))
+
+    pub row-goes : (r .place ≡ place → ⊥) → Filling rowWords read n from w l₀ (left - 1) (r .next) (r .place) now
+    row-goes = goes-by (read here) refl
 
 -- some words, and then others
 pub also : (xs : List ℤ) {ys : List ℤ} {end : Cursor} {w place : ℕ} {l m : List ℤ} {r : Filled} {now : List ℤ}

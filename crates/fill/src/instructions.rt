@@ -21,12 +21,11 @@ ghost use lib.IntN.{pos};
 ghost use lib.ListN.{length};
 ghost use Rattle.code.specs.Plain.{firstOf, secondOf, pastOperands, operandsFor, middlesFor, isPlain};
 ghost use Rattle.format.specs.Put.{put};
-ghost use Rattle.format.specs.Reading.{leading};
 ghost use Rattle.format.specs.Records.{modeOf, middleOf};
 ghost use Rattle.format.specs.Sections.{instructionAt};
-ghost use Rattle.format.specs.Words.{flatten, instructionWidth, instructionWords};
+ghost use Rattle.format.specs.Words.{instructionWidth, instructionWords};
 ghost use Rattle.rows.specs.Rows.{rowAt, rowWords};
-ghost use Rattle.fill.specs.Filled.{Rows, Stored, One, wordsIn};
+ghost use Rattle.fill.specs.Filled.{Stored, One, wordsIn};
 
 // A source or a destination: its mode and the registers that the mode has.
 fn put_addressed(file: &[u8], mode: u8, c: Cursor, words: &mut [i32], w: usize) -> Cursor
@@ -36,8 +35,9 @@ fn put_addressed(file: &[u8], mode: u8, c: Cursor, words: &mut [i32], w: usize) 
     let n = operands_for(mode);
     let first = first_of(file, n, c);
     let second = second_of(file, n, c);
+    let next = past_two(file, n, c);
     put_three(words, w, mode as i32, first, second);
-    past_two(file, n, c)
+    next
 }
 
 fn put_middle(file: &[u8], b: u8, c: Cursor, words: &mut [i32], w: usize)
@@ -63,7 +63,7 @@ fn put_plain(file: &[u8], c: Cursor, words: &mut [i32], w: usize) -> Cursor
 }
 
 // An instruction, stored; where it is refused, nothing.
-fn fill_instruction(file: &[u8], c: Cursor, words: &mut [i32], w: usize) -> Filled
+pub fn fill_instruction(file: &[u8], c: Cursor, words: &mut [i32], w: usize) -> Filled
     requires { ⌜ w + length (wordsIn rowWords (rowAt (now file) Kind.Code c)) ≤ length (now words) ⌝ }
     ensures { λ r. ⌜ One rowWords (rowAt (now (file .entry)) Kind.Code) c w (now (words .entry)) r (now (words .exit)) ⌝ }
 {
@@ -78,23 +78,4 @@ fn fill_instruction(file: &[u8], c: Cursor, words: &mut [i32], w: usize) -> Fill
             Filled { next, place }
         }
     }
-}
-
-pub fn fill_code(file: &[u8], n: usize, c: Cursor, words: &mut [i32], w: usize) -> Filled
-    requires { ⌜ w + length (flatten rowWords (leading (rowAt (now file) Kind.Code) n c)) ≤ length (now words) ⌝ }
-    ensures { λ r. ⌜ Rows (now (file .entry)) Kind.Code n c w (now (words .entry)) r (now (words .exit)) ⌝ }
-{
-    let mut here = c;
-    let mut left = n;
-    let mut place = w;
-    while 0 < left {
-        let one = fill_instruction(file, here, words, place);
-        if one.place == place {
-            return Filled { next: here, place };
-        }
-        here = one.next;
-        place = one.place;
-        left -= 1;
-    }
-    Filled { next: here, place }
 }

@@ -1,4 +1,5 @@
 // The second pass: the table words, from a place on, in file order. The file was scanned: what is read here was read before.
 pub mod groups;
 pub mod instructions;
+pub mod records;
 pub mod runs;

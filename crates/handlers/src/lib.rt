@@ -4,6 +4,7 @@ use format::module::ExceptionCase;
 use format::module::Handler;
 use format::refusal::Refusal;
 use format::types::Cursor;
+use names::NamedEnd;
 use names::read_named;
 use pieces::FourRead;
 use pieces::SpanStep;
@@ -13,8 +14,10 @@ use reader::read_operand;
 ghost use mathlib.Core.Path.{_≡_};
 ghost use Prim.Native.Nat.{_≤_};
 ghost use lib.ListN.{length};
+ghost use Rattle.format.specs.Reading.{endOf};
 ghost use Rattle.format.specs.Records.{sizeLimit};
 ghost use Rattle.format.specs.Sections.{caseAt, headAt};
+ghost use Rattle.names.specs.View.{namedEnd};
 ghost use Rattle.handlers.specs.View.{caseRead, headRead};
 
 pub enum CaseRead {
@@ -47,6 +50,25 @@ pub fn read_case(file: &[u8], c: Cursor) -> CaseRead
                 case: ExceptionCase { name, pc },
                 next,
             }
+        }
+    }
+}
+
+// Where a case ends, for the first pass: no record is built.
+pub fn skip_case(file: &[u8], c: Cursor) -> NamedEnd
+    requires { ⌜ length (now file) ≤ sizeLimit ⌝ }
+    ensures { λ r. ⌜ namedEnd r ≡ endOf (caseAt (now (file .entry)) c) ⌝ }
+{
+    match read_named(file, 8, c) {
+        SpanStep::Refused(why) => NamedEnd::Refused(why),
+        SpanStep::Got { span: _, next: pc } => {
+            let NumberRead::Got { value: _, next } = read_operand(file, pc) else {
+                return NamedEnd::Refused(Refusal::Ended {
+                    section: 8,
+                    place: pc.at,
+                });
+            };
+            NamedEnd::Done { next }
         }
     }
 }

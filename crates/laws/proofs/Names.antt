@@ -1,20 +1,20 @@
 -- Names and spans by cases: a search for the zero byte, byte after byte; and the part of a file that a span says.
 -- Assumes nothing.
 use Prim.Native.Nat.{ℕ, zero, suc, _+_, _-_, _≤_, _<_}
-use mathlib.Core.Path.{_≡_, refl, ap}
+use mathlib.Core.Path.{_≡_, refl, sym, ap, _∙_}
 use mathlib.Core.Bool.{Bool, true, false, cond}
-use mathlib.Core.List.{List, []}
+use mathlib.Core.List.{List, [], _∷_, _++_}
 use mathlib.Core.Option.{Option, none, some, Option·map}
 use native.Mathlib.Omega.{arith}
-use native.Mathlib.Nat.{add-zero}
+use native.Mathlib.Nat.{add-zero, zero-add, add-sub-cancel-left}
 use native.Mathlib.Numerals.{add-one}
 use borrow.Author.Tests.{le-leb, ne-eqb}
 use lib.Count.{ones}
 use lib.Dec.{leb}
 use lib.IntN.{ℤ, pos, negsuc}
 use lib.Signed.{mag}
-use lib.ListN.{length, getD, take, drop, drop-of-length-le, length-take}
-use lib.Seq.{drop-cons}
+use lib.ListN.{length, getD, take, drop, drop-of-length-le, length-take, length-drop, take-append-drop}
+use lib.Seq.{drop-cons, drop-drop}
 use Rattle.laws.proofs.Types.{Span}
 use Rattle.format.specs.Operands.{zeroIn, shown, within, inside}
 use Rattle.format.specs.Records.{onesOf}
@@ -76,6 +76,25 @@ module _ (map : List ℕ) (i : ℕ) where
   pub ones-done : length map ≤ i → onesOf (drop i map) ≡ 0
   unfolding onesOf
   ones-done h = rw (drop-of-length-le map h)
+
+ones-both : (xs ys : List ℕ) → onesOf (xs ++ ys) ≡ onesOf xs + onesOf ys
+unfolding onesOf
+ones-both [] ys = sym (zero-add (onesOf ys))
+ones-both (x ∷ xs) ys = omega (arith, ones-both xs ys)
+
+ones-split : (k : ℕ) (map : List ℕ) → onesOf (take k map) + onesOf (drop k map) ≡ onesOf map
+ones-split k map = sym (ones-both (take k map) (drop k map)) ∙ ap onesOf (take-append-drop k map)
+
+-- and part after part: the next k bytes, and all that are left
+module _ (map : List ℕ) (i : ℕ) {r : ℕ} where
+  pub ones-part : (k : ℕ) → r ≡ onesOf (take (i + k - i) (drop i map)) → r + onesOf (drop (i + k) map) ≡ onesOf (drop i map)
+  ones-part k e = rw (e, add-sub-cancel-left, ← drop-drop k i map) (ones-split k (drop i map))
+
+  pub ones-rest : r ≡ onesOf (take (length map - i) (drop i map)) → r ≡ onesOf (drop i map)
+  ones-rest e =
+      let n = length map - i in
+      let l : length (drop i map) ≤ n = omega (arith, length-drop i map) in
+      omega (arith, e, ones-split n (drop i map), ones-done (drop i map) n l)
 
 -- ---- what a span shows
 

@@ -50,8 +50,8 @@ firstWide (raw bs ∷ ps) = firstWide ps
 firstWide (operand v ∷ ps) = orElse (wideOne v) (firstWide ps)
 
 -- whatever file its spans lie in
-abbrev pub WideIn : Row → Wide → Type 0
-WideIn row r = (file : List ℕ) → length file ≤ sizeLimit → wideOf r ≡ firstWide (rowLine file row .parts)
+abbrev pub WideIn : (List ℕ → Line) → Wide → Type 0
+WideIn line r = (file : List ℕ) → length file ≤ sizeLimit → wideOf r ≡ firstWide (line file .parts)
 
 -- ---- lengths: an operand outside 30 bits has none
 

@@ -7,11 +7,11 @@ use format::module::ExceptionCase;
 use format::module::ExportEntry;
 use format::types::TypeDescriptor;
 use reader::write::operand_len;
-use rows::Row;
 use values::instruction::middle_number;
 use values::instruction::mode_number;
 ghost use mathlib.Core.Path.{_≡_};
-ghost use Rattle.format.specs.Writing.{registers, middleRegister, instructionLine};
+ghost use Rattle.format.specs.Content.{typeShown, itemShown, exportShown, caseShown};
+ghost use Rattle.format.specs.Writing.{registers, middleRegister, instructionLine, typeLine, itemLine, exportLine, caseLine};
 ghost use Rattle.lines.specs.Lines.{wideOf, wideOne, wideTwo, orElse, firstWide, WideIn};
 
 pub enum Wide {
@@ -65,47 +65,35 @@ fn wide_middle(o: MiddleOperand) -> Wide
     }
 }
 
-fn wide_instruction(i: Instruction) -> Wide
+pub fn wide_instruction(i: Instruction) -> Wide
     ensures { λ r. ⌜ wideOf r ≡ firstWide (instructionLine i .parts) ⌝ }
 {
     let front = either(wide_middle(i.middle), wide_registers(i.source));
     either(front, wide_registers(i.destination))
 }
 
-fn wide_type(t: TypeDescriptor) -> Wide
-    ensures { λ r. ⌜ wideOf r ≡ wideTwo (t .id) (t .size) ⌝ }
+// A map's length is never wide.
+pub fn wide_type(t: TypeDescriptor) -> Wide
+    ensures { λ r. ⌜ WideIn (λ file. typeLine (typeShown file t)) r ⌝ }
 {
     wide_two(t.id, t.size)
 }
 
-fn wide_item(d: DataItem) -> Wide
-    ensures { λ r. ⌜ wideOf r ≡ wideTwo (d .count) (d .offset) ⌝ }
+// Nor is an inline count.
+pub fn wide_item(d: DataItem) -> Wide
+    ensures { λ r. ⌜ WideIn (λ file. itemLine (itemShown file d)) r ⌝ }
 {
     wide_two(d.count, d.offset)
 }
 
-fn wide_export(e: ExportEntry) -> Wide
-    ensures { λ r. ⌜ wideOf r ≡ wideTwo (e .pc) (e .frame) ⌝ }
+pub fn wide_export(e: ExportEntry) -> Wide
+    ensures { λ r. ⌜ WideIn (λ file. exportLine (exportShown file e)) r ⌝ }
 {
     wide_two(e.pc, e.frame)
 }
 
-fn wide_case(c: ExceptionCase) -> Wide
-    ensures { λ r. ⌜ wideOf r ≡ wideOne (c .pc) ⌝ }
+pub fn wide_case(c: ExceptionCase) -> Wide
+    ensures { λ r. ⌜ WideIn (λ file. caseLine (caseShown file c)) r ⌝ }
 {
     wide_one(c.pc)
-}
-
-// An inline count is never wide, nor is a map's length.
-pub fn wide_row(row: Row) -> Wide
-    ensures { λ r. ⌜ WideIn row r ⌝ }
-{
-    match row {
-        Row::Instruction(i) => wide_instruction(i),
-        Row::Type(t) => wide_type(t),
-        Row::Item(d) => wide_item(d),
-        Row::Export(e) => wide_export(e),
-        Row::Function(_) => Wide::Nothing,
-        Row::Case(c) => wide_case(c),
-    }
 }

@@ -1,32 +1,22 @@
 -- An instruction that is measured by its words.
 -- Assumes nothing.
-use Prim.Native.Nat.{ℕ, _+_, _-_, _≤_, _<_}
+use Prim.Native.Nat.{ℕ, _+_, _≤_}
 use mathlib.Core.Path.{_≡_, sym, ap, _∙_}
 use mathlib.Core.List.{List}
 use mathlib.Core.Option.{none}
-use native.Mathlib.Omega.{arith}
 use lib.IntN.{ℤ}
-use lib.ListN.{length}
 use Rattle.format.specs.declared.instruction.Instruction.{Instruction}
-use Rattle.format.specs.Reading.{got, many, Whole}
-use Rattle.format.specs.Records.{sizeLimit, wordLimit}
+use Rattle.format.specs.Reading.{got, Whole}
+use Rattle.format.specs.Records.{wordLimit}
 use Rattle.format.specs.WellFormed.{instructionFrom}
 use Rattle.format.specs.Writing.{instructionLine}
-use Rattle.laws.proofs.Whole.{whole-got, whole-first}
-use Rattle.rows.specs.declared.Kind.the-variants as K
-use Rattle.rows.specs.declared.Row.the-variants as R
+use Rattle.laws.proofs.Whole.{whole-got}
 use Rattle.lines.specs.Lines.{firstWide, partsLen}
-use Rattle.table_rows.specs.Rows.{rowFrom}
-use Rattle.table_rows.proofs.Reach.{renamed-whole}
+use Rattle.lines.proofs.Forms.{parts-length}
 use Rattle.table_code.proofs.Instructions.{instructions}
 use Rattle.table_lines.specs.There.{partsThere, narrowLen}
 use Rattle.table_lines.proofs.Good.{Nine, nine}
-use Rattle.table_lines.proofs.Sizes.{length-is}
-use Rattle.measure.specs.declared.Measured.{Measured}
-use Rattle.measure.specs.declared.Measured.the-variants as Measured-is
-use Rattle.measure.specs.Measured.{rowLines, Grows}
-use Rattle.measure.proofs.Sizes.{Measuring, turn}
-use Rattle.measure.proofs.Facts.{inside-limit, ends-at, row-fits, row-grows}
+use Rattle.measure.proofs.Facts.{inside-limit, ends-at}
 
 -- the instruction there
 pub record Coded (words : List ℤ) (here : ℕ) : Type 0 where
@@ -45,21 +35,7 @@ coded words here h =
       there = nine words here (g .2);
     }
 
-module _ (file : List ℕ) (words : List ℤ) {n w from left here size : ℕ} (m : Measuring (rowLines file) (rowFrom file words K.Code) n w from left here size) (more : 0 < left) where
-  pub here-coded : Coded words here
-  here-coded = coded words here (renamed-whole R.Instruction (instructionFrom words) here (whole-first (rowFrom file words K.Code) left here (m .all) more))
-
-  pub code-turn : length file ≤ sizeLimit → {len : ℕ} → len ≡ narrowLen (partsThere words here) → (len ≡ 0 → ⊥)
-      → Measuring (rowLines file) (rowFrom file words K.Code) n w from (left - 1) (here + 9) (size + len)
-  code-turn small {len} e ne =
-      let i = here-coded .instruction in
-      let l = length-is (partsThere words here) e ne in
-      let narrow : firstWide (instructionLine i .parts) ≡ none = rw (← here-coded .there .parts) (l .0) in
-      let long : len ≡ partsLen (instructionLine i .parts) = rw (← here-coded .there .parts) (l .1) in
-      let at-row : rowFrom file words K.Code here ≡ got (R.Instruction i) (here + 9) = rw (here-coded .read) in
-      rw long (turn (rowLines file) (rowFrom file words K.Code) m more at-row (row-fits file (R.Instruction i) size here narrow) (row-grows file (R.Instruction i) size here narrow small))
-
-  -- what is measured of the rest grows with what was measured before
-  pub grows-after : (r : Measured) → Grows size here r → Grows from w r
-  grows-after (Measured-is.Fits k next) g = omega (arith, m .grown, g)
-  grows-after (Measured-is.Wide why) g = tt
+-- how long its line is, where no operand is wide
+pub coded-length : {words : List ℤ} {here : ℕ} (k : Coded words here) {r : ℕ} → r ≡ narrowLen (partsThere words here) → firstWide (instructionLine (k .instruction) .parts) ≡ none
+    → r ≡ partsLen (instructionLine (k .instruction) .parts)
+coded-length k e h = let ps = instructionLine (k .instruction) .parts in e ∙ ap (λ qs. narrowLen qs) (k .there .parts) ∙ rw h (sym (parts-length ps h))

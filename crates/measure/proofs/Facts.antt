@@ -34,7 +34,7 @@ use Rattle.lines.proofs.Forms.{len-most, parts-length, shown-most, middle-most,
 use Rattle.measure.specs.Measured.{measured, rowLines}
 use Rattle.measure.proofs.Sizes.{line-fits, line-wide}
 use Rattle.measure.proofs.Growth.{Fitting}
-use Rattle.measure.specs.Rows.{sectionOf, widthOf}
+use Rattle.measure.specs.Rows.{sectionOf}
 
 -- ---- refusal 21 of a line
 
@@ -81,6 +81,7 @@ ends-at {words = words} r w e = from-got words (r .width) (r .read) w (sym (r .s
 
 module _ (file : List ℕ) (words : List ℤ) where
   pub record RowIs (kind : Kind) (w : ℕ) (row : Row) (q : ℕ) : Type 0 where
+    pub section : rowLine file row .section ≡ sectionOf kind
     pub width : rowLine file row .width ≡ rowWidth kind
     pub limit : w + rowWidth kind ≤ wordLimit
     pub ends : q ≡ w + rowWidth kind
@@ -88,39 +89,31 @@ module _ (file : List ℕ) (words : List ℤ) where
   pub row-is : (kind : Kind) (w : ℕ) {row : Row} {q : ℕ} → rowFrom file words kind w ≡ got row q → RowIs kind w row q
   row-is K.Code w e =
       let g = renamed-got R.Instruction (instructionFrom words) w e in
-      rw (← g .2) (record { width = refl; limit = inside-limit (instructions words) w (g .1); ends = ends-at (instructions words) w (g .1) })
+      rw (← g .2) (record { section = refl; width = refl; limit = inside-limit (instructions words) w (g .1); ends = ends-at (instructions words) w (g .1) })
   row-is K.Types w e =
       let g = renamed-got R.Type (typeFrom file words) w e in
-      rw (← g .2) (record { width = refl; limit = inside-limit (recorded (types file words)) w (g .1); ends = ends-at (recorded (types file words)) w (g .1) })
+      rw (← g .2) (record { section = refl; width = refl; limit = inside-limit (recorded (types file words)) w (g .1); ends = ends-at (recorded (types file words)) w (g .1) })
   row-is K.Items w e =
       let g = renamed-got R.Item (itemFrom file words) w e in
-      rw (← g .2) (record { width = refl; limit = inside-limit (items file words) w (g .1); ends = ends-at (items file words) w (g .1) })
+      rw (← g .2) (record { section = refl; width = refl; limit = inside-limit (items file words) w (g .1); ends = ends-at (items file words) w (g .1) })
   row-is K.Exports w e =
       let g = renamed-got R.Export (exportFrom file words) w e in
-      rw (← g .2) (record { width = refl; limit = inside-limit (recorded (exports file words)) w (g .1); ends = ends-at (recorded (exports file words)) w (g .1) })
+      rw (← g .2) (record { section = refl; width = refl; limit = inside-limit (recorded (exports file words)) w (g .1); ends = ends-at (recorded (exports file words)) w (g .1) })
   row-is K.Functions w e =
       let g = renamed-got R.Function (functionFrom file words) w e in
-      rw (← g .2) (record { width = refl; limit = inside-limit (recorded (functions file words)) w (g .1); ends = ends-at (recorded (functions file words)) w (g .1) })
+      rw (← g .2) (record { section = refl; width = refl; limit = inside-limit (recorded (functions file words)) w (g .1); ends = ends-at (recorded (functions file words)) w (g .1) })
   row-is K.Cases w e =
       let g = renamed-got R.Case (caseFrom file words) w e in
-      rw (← g .2) (record { width = refl; limit = inside-limit (recorded (cases file words)) w (g .1); ends = ends-at (recorded (cases file words)) w (g .1) })
+      rw (← g .2) (record { section = refl; width = refl; limit = inside-limit (recorded (cases file words)) w (g .1); ends = ends-at (recorded (cases file words)) w (g .1) })
 
 -- the row's line
-pub line-section : (file : List ℕ) (row : Row) → rowLine file row .section ≡ sectionOf row
-line-section file (R.Instruction i) = refl
-line-section file (R.Type t) = refl
-line-section file (R.Item d) = refl
-line-section file (R.Export e) = refl
-line-section file (R.Function f) = refl
-line-section file (R.Case c) = refl
-
-pub line-width : (file : List ℕ) (row : Row) → (rowLine file row .width ≡ widthOf row) × (1 ≤ widthOf row) × (widthOf row ≤ 9)
-line-width file (R.Instruction i) = (refl, omega arith, omega arith)
-line-width file (R.Type t) = (refl, omega arith, omega arith)
-line-width file (R.Item d) = (refl, omega arith, omega arith)
-line-width file (R.Export e) = (refl, omega arith, omega arith)
-line-width file (R.Function f) = (refl, omega arith, omega arith)
-line-width file (R.Case c) = (refl, omega arith, omega arith)
+pub line-width : (file : List ℕ) (row : Row) → 1 ≤ rowLine file row .width
+line-width file (R.Instruction i) = omega arith
+line-width file (R.Type t) = omega arith
+line-width file (R.Item d) = omega arith
+line-width file (R.Export e) = omega arith
+line-width file (R.Function f) = omega arith
+line-width file (R.Case c) = omega arith
 
 pub row-light : (file : List ℕ) → length file ≤ sizeLimit → (row : Row) → partsLen (rowLine file row .parts) ≤ 2 ^ 25
 row-light file h (R.Instruction i) = omega (arith, instruction-len i, middle-most (i .middle) refl, registers-most (i .source) refl, registers-most (i .destination) refl)
@@ -136,17 +129,17 @@ row-light file h (R.Case c) = omega (arith, case-len (shown file (c .name)) (c .
 -- ---- a row is measured
 
 module _ (file : List ℕ) (row : Row) (n w : ℕ) where
-  pub row-wide : {v : ℤ} → firstWide (rowLine file row .parts) ≡ some v → measured n w (rowLines file row) ≡ refused (WideOperand (sectionOf row) w v)
-  row-wide {v} e = line-wide n w (rowLine file row) (rw (line-section file row) (parts-wide (sectionOf row) w (rowLine file row .parts) e))
+  pub row-wide : {v : ℤ} → firstWide (rowLine file row .parts) ≡ some v → measured n w (rowLines file row) ≡ refused (WideOperand (rowLine file row .section) w v)
+  row-wide {v} e = line-wide n w (rowLine file row) (parts-wide (rowLine file row .section) w (rowLine file row .parts) e)
 
   module _ (e : firstWide (rowLine file row .parts) ≡ none) where
-    pub row-fits : measured n w (rowLines file row) ≡ got (n + partsLen (rowLine file row .parts)) (w + widthOf row)
+    pub row-fits : measured n w (rowLines file row) ≡ got (n + partsLen (rowLine file row .parts)) (w + rowLine file row .width)
     row-fits =
         line-fits n w (rowLine file row) (parts-narrow (rowLine file row .section) w (rowLine file row .parts) e)
-        ∙ rw (parts-length (rowLine file row .parts) e, line-width file row .0)
+        ∙ rw (parts-length (rowLine file row .parts) e)
 
-    pub row-grows : length file ≤ sizeLimit → n + partsLen (rowLine file row .parts) + 2 ^ 25 * w ≤ n + 2 ^ 25 * (w + widthOf row)
-    row-grows h = omega (arith, row-light file h row, line-width file row .1)
+    pub row-grows : length file ≤ sizeLimit → n + partsLen (rowLine file row .parts) + 2 ^ 25 * w ≤ n + 2 ^ 25 * (w + rowLine file row .width)
+    row-grows h = omega (arith, row-light file h row, line-width file row)
 
 pub row-fitting : (file : List ℕ) (words : List ℤ) (kind : Kind) → Fitting (rowLines file) (rowFrom file words kind)
 row-fitting file words kind p q row e = omega (arith, row-is file words kind p e .width, row-is file words kind p e .ends)

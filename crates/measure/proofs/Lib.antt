@@ -6,4 +6,6 @@ pub mod Facts
 pub mod Grouped
 pub mod Growth
 pub mod Placed
+pub mod Rowed
 pub mod Sizes
+pub mod Stands

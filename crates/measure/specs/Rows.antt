@@ -1,21 +1,34 @@
--- The section of a row and the words it has in the table, as its line says.
+-- Rows by their kind: the section they stand in, the parts of the line of one, and what is measured of it.
 use Prim.Native.Nat.{ℕ}
-use Rattle.format.specs.Words.{instructionWidth, typeWidth, itemWidth, exportWidth, functionWidth, caseWidth}
+use mathlib.Core.List.{List, []}
+use mathlib.Core.Option.{none}
+use mathlib.Core.Path.{_≡_}
+use Rattle.format.specs.declared.instruction.Instruction.{Instruction}
+use Rattle.format.specs.Reading.{Step, got, refused}
+use Rattle.format.specs.Writing.{Part, instructionLine}
+use Rattle.rows.specs.declared.Kind.{Kind}
+use Rattle.rows.specs.declared.Kind.the-variants as K
 use Rattle.rows.specs.declared.Row.{Row}
-use Rattle.rows.specs.declared.Row.the-variants as R
+use Rattle.lines.specs.Lines.{rowLine, wideOf, firstWide, partsLen}
+use Rattle.measure.specs.declared.runs.RowSize.{RowSize}
 
-abbrev pub sectionOf : Row → ℕ
-sectionOf (R.Instruction i) = 2
-sectionOf (R.Type t) = 3
-sectionOf (R.Item d) = 4
-sectionOf (R.Export e) = 6
-sectionOf (R.Function f) = 7
-sectionOf (R.Case c) = 8
+abbrev pub sectionOf : Kind → ℕ
+sectionOf K.Code = 2
+sectionOf K.Types = 3
+sectionOf K.Items = 4
+sectionOf K.Exports = 6
+sectionOf K.Functions = 7
+sectionOf K.Cases = 8
 
-abbrev pub widthOf : Row → ℕ
-widthOf (R.Instruction i) = instructionWidth
-widthOf (R.Type t) = typeWidth
-widthOf (R.Item d) = itemWidth
-widthOf (R.Export e) = exportWidth
-widthOf (R.Function f) = functionWidth
-widthOf (R.Case c) = caseWidth
+-- of a row that was read
+abbrev pub partsIn : List ℕ → Step ℕ Row → List Part
+partsIn file (got row next) = rowLine file row .parts
+partsIn file (refused why) = []
+
+abbrev pub codeIn : Step ℕ Instruction → List Part
+codeIn (got i next) = instructionLine i .parts
+codeIn (refused why) = []
+
+pub record SizeIs (ps : List Part) (r : RowSize) : Type 0 where
+  pub wide : wideOf (r .wide) ≡ firstWide ps
+  pub len : firstWide ps ≡ none → r .len ≡ partsLen ps

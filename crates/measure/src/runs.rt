@@ -1,108 +1,125 @@
 // One row, and one loop for every run of rows of one kind.
 use crate::Measured;
 use format::refusal::Refusal;
-use lines::length::row_len;
+use lines::length::case_len;
+use lines::length::export_len;
+use lines::length::function_len;
+use lines::length::item_len;
+use lines::length::type_len;
 use lines::wide::Wide;
-use lines::wide::wide_row;
+use lines::wide::wide_case;
+use lines::wide::wide_export;
+use lines::wide::wide_instruction;
+use lines::wide::wide_item;
+use lines::wide::wide_type;
 use rows::Kind;
-use rows::Row;
+use table_code::InstructionFrom;
+use table_code::instruction_from;
+use table_data::item_there;
+use table_handlers::case_there;
 use table_lines::size::size_there;
-use table_rows::RowFrom;
-use table_rows::row_of;
+use table_names::export_there;
+use table_names::function_there;
+use table_rows::row_width;
+use table_types::type_there;
 ghost use mathlib.Core.Path.{_≡_};
 ghost use Prim.Native.Nat.{_+_, _^_, _≤_, _<_};
 ghost use lib.ListN.{length};
 ghost use Rattle.format.specs.Reading.{many, leading, Whole};
 ghost use Rattle.format.specs.Records.{sizeLimit};
+ghost use Rattle.format.specs.WellFormed.{instructionFrom};
 ghost use Rattle.format.specs.Words.{flatten};
+ghost use Rattle.lines.specs.Lines.{wideOf, firstWide};
 ghost use Rattle.table_rows.specs.Rows.{rowFrom};
 ghost use Rattle.measure.specs.Measured.{rowLines, measured, sizeRead, Grows};
-ghost use Rattle.measure.specs.Rows.{sectionOf, widthOf};
+ghost use Rattle.measure.specs.Rows.{sectionOf, codeIn, partsIn, SizeIs};
 
-fn section_of(row: Row) -> u8
-    ensures { λ r. ⌜ r ≡ sectionOf row ⌝ }
+// What is measured of a row: the first operand that no form holds, and where there is none, how long its line is.
+struct RowSize {
+    wide: Wide,
+    len: usize,
+}
+
+fn section_of(kind: Kind) -> u8
+    ensures { λ r. ⌜ r ≡ sectionOf kind ⌝ }
 {
-    match row {
-        Row::Instruction(_) => 2,
-        Row::Type(_) => 3,
-        Row::Item(_) => 4,
-        Row::Export(_) => 6,
-        Row::Function(_) => 7,
-        Row::Case(_) => 8,
+    match kind {
+        Kind::Code => 2,
+        Kind::Types => 3,
+        Kind::Items => 4,
+        Kind::Exports => 6,
+        Kind::Functions => 7,
+        Kind::Cases => 8,
     }
 }
 
-fn width_of(row: Row) -> usize
-    ensures { λ r. ⌜ r ≡ widthOf row ⌝ }
+fn wide_code(words: &[i32], w: usize) -> Wide
+    ensures { λ r. ⌜ wideOf r ≡ firstWide (codeIn (instructionFrom (now (words .entry)) w)) ⌝ }
 {
-    match row {
-        Row::Instruction(_) => 9,
-        Row::Type(_) => 5,
-        Row::Item(_) => 5,
-        Row::Export(_) => 5,
-        Row::Function(_) => 3,
-        Row::Case(_) => 3,
+    match instruction_from(words, w) {
+        InstructionFrom::Bad => Wide::Nothing,
+        InstructionFrom::Got(instruction) => wide_instruction(instruction),
     }
 }
 
-fn measure_row(file: &[u8], row: Row, w: usize, from: usize) -> Measured
-    requires { ⌜ (length (now file) ≤ sizeLimit) × (from < 2 ^ 63) × (w < 2 ^ 63) ⌝ }
-    ensures { λ r. ⌜ (sizeRead r ≡ measured from w (rowLines (now (file .entry)) row)) × Grows from w r ⌝ }
+// Where no operand is wide, no record is built.
+fn code_size(words: &[i32], w: usize) -> RowSize
+    requires { ⌜ Whole (instructionFrom (now words) w) ⌝ }
+    ensures { λ r. ⌜ SizeIs (codeIn (instructionFrom (now (words .entry)) w)) r ⌝ }
 {
-    match wide_row(row) {
-        Wide::Found(value) => Measured::Wide(Refusal::WideOperand {
-            section: section_of(row),
-            place: w,
-            value,
-        }),
-        Wide::Nothing => Measured::Fits {
-            size: from + row_len(file, row),
-            next: w + width_of(row),
+    let len = size_there(words, w);
+    if len == 0 {
+        return RowSize {
+            wide: wide_code(words, w),
+            len,
+        };
+    }
+    RowSize {
+        wide: Wide::Nothing,
+        len,
+    }
+}
+
+// A row that is known to be good: names are not looked at again, nor the ones of a map counted.
+fn row_size(file: &[u8], words: &[i32], kind: Kind, w: usize) -> RowSize
+    requires { ⌜ (length (now file) ≤ sizeLimit) × Whole (rowFrom (now file) (now words) kind w) ⌝ }
+    ensures { λ r. ⌜ SizeIs (partsIn (now (file .entry)) (rowFrom (now (file .entry)) (now (words .entry)) kind w)) r ⌝ }
+{
+    match kind {
+        Kind::Code => code_size(words, w),
+        Kind::Types => {
+            let t = type_there(words, w);
+            RowSize {
+                wide: wide_type(t),
+                len: type_len(file, t),
+            }
+        }
+        Kind::Items => {
+            let d = item_there(words, w);
+            RowSize {
+                wide: wide_item(d),
+                len: item_len(file, d),
+            }
+        }
+        Kind::Exports => {
+            let e = export_there(words, w);
+            RowSize {
+                wide: wide_export(e),
+                len: export_len(file, e),
+            }
+        }
+        Kind::Functions => RowSize {
+            wide: Wide::Nothing,
+            len: function_len(file, function_there(words, w)),
         },
-    }
-}
-
-fn measure_each(file: &[u8], words: &[i32], kind: Kind, n: usize, w: usize, from: usize) -> Measured
-    requires { ⌜ (length (now file) ≤ sizeLimit) × (from < 2 ^ 62 + 2 ^ 61) × Whole (many (rowFrom (now file) (now words) kind) n w) ⌝ }
-    ensures { λ r. ⌜ (sizeRead r ≡ measured from w (flatten (rowLines (now (file .entry))) (leading (rowFrom (now (file .entry)) (now (words .entry)) kind) n w))) × Grows from w r ⌝ }
-{
-    let mut size = from;
-    let mut here = w;
-    let mut left = n;
-    while 0 < left {
-        match row_of(file, words, kind, here) {
-            RowFrom::Bad => return Measured::Fits { size, next: here },
-            RowFrom::Got(row) => match measure_row(file, row, here, size) {
-                Measured::Wide(why) => return Measured::Wide(why),
-                Measured::Fits { size: more, next } => {
-                    size = more;
-                    here = next;
-                }
-            },
+        Kind::Cases => {
+            let c = case_there(words, w);
+            RowSize {
+                wide: wide_case(c),
+                len: case_len(file, c),
+            }
         }
-        left -= 1;
     }
-    Measured::Fits { size, next: here }
-}
-
-// Instructions are most of a module: they are measured by their words, up to one that has too wide an operand.
-fn measure_code(file: &[u8], words: &[i32], n: usize, w: usize, from: usize) -> Measured
-    requires { ⌜ (length (now file) ≤ sizeLimit) × (from < 2 ^ 62) × Whole (many (rowFrom (now file) (now words) Kind.Code) n w) ⌝ }
-    ensures { λ r. ⌜ (sizeRead r ≡ measured from w (flatten (rowLines (now (file .entry))) (leading (rowFrom (now (file .entry)) (now (words .entry)) Kind.Code) n w))) × Grows from w r ⌝ }
-{
-    let mut size = from;
-    let mut here = w;
-    let mut left = n;
-    while 0 < left {
-        let len = size_there(words, here);
-        if len == 0 {
-            return measure_each(file, words, Kind::Code, left, here, size);
-        }
-        size += len;
-        here += 9;
-        left -= 1;
-    }
-    Measured::Fits { size, next: here }
 }
 
 pub fn measure_rows(
@@ -116,8 +133,27 @@ pub fn measure_rows(
     requires { ⌜ (length (now file) ≤ sizeLimit) × (from < 2 ^ 62) × Whole (many (rowFrom (now file) (now words) kind) n w) ⌝ }
     ensures { λ r. ⌜ (sizeRead r ≡ measured from w (flatten (rowLines (now (file .entry))) (leading (rowFrom (now (file .entry)) (now (words .entry)) kind) n w))) × Grows from w r ⌝ }
 {
-    match kind {
-        Kind::Code => measure_code(file, words, n, w, from),
-        _ => measure_each(file, words, kind, n, w, from),
+    let width = row_width(kind);
+    let mut size = from;
+    let mut here = w;
+    let mut left = n;
+    while 0 < left {
+        let row = row_size(file, words, kind, here);
+        let wide = row.wide;
+        match wide {
+            Wide::Found(value) => {
+                return Measured::Wide(Refusal::WideOperand {
+                    section: section_of(kind),
+                    place: here,
+                    value,
+                });
+            }
+            Wide::Nothing => {
+                size += row.len;
+            }
+        }
+        here += width;
+        left -= 1;
     }
+    Measured::Fits { size, next: here }
 }

@@ -13,10 +13,11 @@ use reader::read_word;
 ghost use mathlib.Core.Path.{_≡_};
 ghost use Prim.Native.Nat.{_≤_};
 ghost use lib.ListN.{length};
+ghost use Rattle.format.specs.Reading.{endOf};
 ghost use Rattle.format.specs.Records.{sizeLimit};
 ghost use Rattle.format.specs.Sections.{nameIn, exportAt, functionAt};
 ghost use Rattle.pieces.specs.View.{spanStep};
-ghost use Rattle.names.specs.View.{exportRead, functionRead};
+ghost use Rattle.names.specs.View.{exportRead, functionRead, namedEnd};
 
 pub enum ExportRead {
     Got { export: ExportEntry, next: Cursor },
@@ -25,6 +26,12 @@ pub enum ExportRead {
 
 pub enum FunctionRead {
     Got { function: ImportEntry, next: Cursor },
+    Refused(Refusal),
+}
+
+// Where a record with a name ends.
+pub enum NamedEnd {
+    Done { next: Cursor },
     Refused(Refusal),
 }
 
@@ -105,5 +112,66 @@ pub fn read_export(file: &[u8], c: Cursor) -> ExportRead
             },
             next,
         },
+    }
+}
+
+// Where a function ends, for the first pass: no record is built.
+pub fn skip_function(file: &[u8], c: Cursor) -> NamedEnd
+    requires { ⌜ length (now file) ≤ sizeLimit ⌝ }
+    ensures { λ r. ⌜ namedEnd r ≡ endOf (functionAt (now (file .entry)) c) ⌝ }
+{
+    let NumberRead::Got {
+        value: _,
+        next: name,
+    } = read_word(file, c)
+    else {
+        return NamedEnd::Refused(Refusal::Ended {
+            section: 7,
+            place: c.at,
+        });
+    };
+    match read_named(file, 7, name) {
+        SpanStep::Refused(why) => NamedEnd::Refused(why),
+        SpanStep::Got { span: _, next } => NamedEnd::Done { next },
+    }
+}
+
+pub fn skip_export(file: &[u8], c: Cursor) -> NamedEnd
+    requires { ⌜ length (now file) ≤ sizeLimit ⌝ }
+    ensures { λ r. ⌜ namedEnd r ≡ endOf (exportAt (now (file .entry)) c) ⌝ }
+{
+    let NumberRead::Got {
+        value: _,
+        next: frame,
+    } = read_operand(file, c)
+    else {
+        return NamedEnd::Refused(Refusal::Ended {
+            section: 6,
+            place: c.at,
+        });
+    };
+    let NumberRead::Got {
+        value: _,
+        next: signature,
+    } = read_operand(file, frame)
+    else {
+        return NamedEnd::Refused(Refusal::Ended {
+            section: 6,
+            place: frame.at,
+        });
+    };
+    let NumberRead::Got {
+        value: _,
+        next: name,
+    } = read_word(file, signature)
+    else {
+        return NamedEnd::Refused(Refusal::Ended {
+            section: 6,
+            place: signature.at,
+        });
+    };
+    match read_named(file, 6, name) {
+        SpanStep::Refused(why) => NamedEnd::Refused(why),
+        SpanStep::Got { span: _, next } => NamedEnd::Done { next },
     }
 }

@@ -35,18 +35,32 @@ pub fn name(file: &[u8], span: Span) -> &[u8]
     part(file, from, count)
 }
 
+// The ones of few bytes fit sixteen bits, and the compiler then counts many bytes side by side.
+fn ones_in_few(few: &[u8]) -> u16
+    requires { ⌜ length (now few) ≤ 8000 ⌝ }
+    ensures { λ r. ⌜ r ≡ onesOf (now (few .entry)) ⌝ }
+{
+    let mut ones: u16 = 0;
+    let mut i = 0;
+    while i < few.len() {
+        ones += u8::count_ones(few[i]) as u16;
+        i += 1;
+    }
+    ones
+}
+
 // A map's ones, of a map that is no longer than a span can be.
 fn ones_in(map: &[u8]) -> usize
     requires { ⌜ length (now map) < 2 ^ 31 ⌝ }
     ensures { λ r. ⌜ r ≡ onesOf (now (map .entry)) ⌝ }
 {
     let mut ones: usize = 0;
-    let mut i = 0;
-    while i < map.len() {
-        ones += u8::count_ones(map[i]) as usize;
-        i += 1;
+    let mut from = 0;
+    while 8000 < map.len() - from {
+        ones += ones_in_few(&map[from..from + 8000]) as usize;
+        from += 8000;
     }
-    ones
+    ones + ones_in_few(&map[from..]) as usize
 }
 
 // The pointer count of a map: the number of ones in it.

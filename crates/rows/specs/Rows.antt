@@ -4,7 +4,7 @@ use mathlib.Core.List.{List}
 use lib.IntN.{ℤ}
 use Rattle.format.specs.declared.types.Cursor.{Cursor}
 use Rattle.format.specs.declared.refusal.Refusal.the-variants.{TooLarge}
-use Rattle.format.specs.Reading.{Step, got, refused, Reads}
+use Rattle.format.specs.Reading.{Reads}
 use Rattle.format.specs.Words.{instructionWords, typeWords, itemWords, exportWords, functionWords, caseWords}
 use Rattle.format.specs.Sections.{instructionAt, typeAt, itemAt, exportAt, functionAt, caseAt}
 use Rattle.laws.proofs.Scans.{renamed}
@@ -13,8 +13,6 @@ use Rattle.rows.specs.declared.Kind.{Kind}
 use Rattle.rows.specs.declared.Kind.the-variants as K
 use Rattle.rows.specs.declared.Row.{Row}
 use Rattle.rows.specs.declared.Row.the-variants as R
-use Rattle.rows.specs.declared.RowRead.{RowRead}
-use Rattle.rows.specs.declared.RowRead.the-variants as RowRead-is
 
 -- the end of the data is no item
 abbrev pub rowAt : List ℕ → Kind → Reads Cursor Row
@@ -32,7 +30,3 @@ rowWords (R.Item d) = itemWords d
 rowWords (R.Export e) = exportWords e
 rowWords (R.Function f) = functionWords f
 rowWords (R.Case c) = caseWords c
-
-abbrev pub rowRead : RowRead → Step Cursor Row
-rowRead (RowRead-is.Got row next) = got row next
-rowRead (RowRead-is.Refused why) = refused why

@@ -1,11 +1,15 @@
 // One loop for every run of records of one kind.
 use code::skip::InstructionEnd;
 use code::skip::skip_instruction;
+use data::skip::ItemEnd;
+use data::skip::skip_item;
 use format::refusal::Refusal;
 use format::types::Cursor;
+use handlers::skip_case;
+use names::NamedEnd;
+use names::skip_export;
+use names::skip_function;
 use rows::Kind;
-use rows::RowRead;
-use rows::read_row;
 use types::TypeEnd;
 use types::skip_type;
 ghost use mathlib.Core.Path.{_≡_};
@@ -22,7 +26,7 @@ pub enum EndRead {
     Refused(Refusal),
 }
 
-// Where a row ends. Code and types, which are most of a file, are passed over; of the others a record costs little.
+// Where a row ends: no record is built. The end of the data is no item.
 fn skip_row(file: &[u8], kind: Kind, c: Cursor) -> EndRead
     requires { ⌜ length (now file) ≤ sizeLimit ⌝ }
     ensures { λ r. ⌜ endRead r ≡ endOf (rowAt (now (file .entry)) kind c) ⌝ }
@@ -36,12 +40,23 @@ fn skip_row(file: &[u8], kind: Kind, c: Cursor) -> EndRead
             TypeEnd::Refused(why) => EndRead::Refused(why),
             TypeEnd::Done { next } => EndRead::Done { next },
         },
-        Kind::Items | Kind::Exports | Kind::Functions | Kind::Cases => {
-            match read_row(file, kind, c) {
-                RowRead::Refused(why) => EndRead::Refused(why),
-                RowRead::Got { row: _, next } => EndRead::Done { next },
-            }
-        }
+        Kind::Items => match skip_item(file, c) {
+            ItemEnd::Refused(why) => EndRead::Refused(why),
+            ItemEnd::End { next: _ } => EndRead::Refused(Refusal::TooLarge),
+            ItemEnd::Item { next } => EndRead::Done { next },
+        },
+        Kind::Exports => match skip_export(file, c) {
+            NamedEnd::Refused(why) => EndRead::Refused(why),
+            NamedEnd::Done { next } => EndRead::Done { next },
+        },
+        Kind::Functions => match skip_function(file, c) {
+            NamedEnd::Refused(why) => EndRead::Refused(why),
+            NamedEnd::Done { next } => EndRead::Done { next },
+        },
+        Kind::Cases => match skip_case(file, c) {
+            NamedEnd::Refused(why) => EndRead::Refused(why),
+            NamedEnd::Done { next } => EndRead::Done { next },
+        },
     }
 }
 

@@ -1,8 +1,8 @@
 // Sections whose records have no fixed size: data items, import modules with their functions, handlers with their cases.
 use crate::runs::EndRead;
 use crate::runs::scan_rows;
-use data::ItemRead;
-use data::read_item;
+use data::skip::ItemEnd;
+use data::skip::skip_item;
 use format::refusal::Refusal;
 use format::types::Cursor;
 use handlers::HeadRead;
@@ -50,10 +50,10 @@ pub fn scan_items(file: &[u8], c: Cursor) -> CountRead
     let mut here = c;
     let mut count: usize = 0;
     loop {
-        match read_item(file, here) {
-            ItemRead::Refused(why) => return CountRead::Refused(why),
-            ItemRead::End { next } => return CountRead::Got { count, next },
-            ItemRead::Got { item: _, next } => {
+        match skip_item(file, here) {
+            ItemEnd::Refused(why) => return CountRead::Refused(why),
+            ItemEnd::End { next } => return CountRead::Got { count, next },
+            ItemEnd::Item { next } => {
                 here = next;
             }
         }

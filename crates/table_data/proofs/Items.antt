@@ -1,7 +1,7 @@
 -- A data item of the words: what its kind fixes leaves nothing to choose, so that it is taken as its words stand.
 -- Assumes nothing.
-use Prim.Native.Nat.{ℕ, zero, suc, _+_, _*_, _≤_}
-use mathlib.Core.Path.{_≡_, refl, sym}
+use Prim.Native.Nat.{ℕ, zero, suc, _+_, _*_, _^_, _≤_, _<_}
+use mathlib.Core.Path.{_≡_, refl, sym, ap, _∙_}
 use mathlib.Core.Bool.{Bool, true, false, _&&_}
 use mathlib.Core.List.{List}
 use mathlib.Core.Option.{Option, none, some}
@@ -9,22 +9,31 @@ use native.Mathlib.Omega.{arith}
 use borrow.Author.Tests.{eq-eqb, eqb-true}
 use lib.Dec.{eqb}
 use lib.IntN.{ℤ, pos, negsuc}
+use lib.ListN.{length}
+use lib.Signed.{mag}
+use mir.Syntax.{w32}
+use mir.Val.{toZ, ofZ}
 use Rattle.bits.specs.Bits.{sameZ}
 use Rattle.format.specs.declared.module.DataKind.{DataKind}
 use Rattle.format.specs.declared.module.DataItem.{DataItem}
+use Rattle.format.specs.declared.module.MaybeDataKind.{MaybeDataKind}
 use Rattle.format.specs.declared.module.Shape.{Shape}
 use Rattle.format.specs.declared.module.Shape.the-variants as S
 use Rattle.format.specs.Operands.{spanOf}
-use Rattle.format.specs.Records.{kinds, kindOf, shapeOf}
+use Rattle.format.specs.Reading.{got, Whole}
+use Rattle.format.specs.Records.{kinds, kindOf, maybeKind, shapeOf}
 use Rattle.format.specs.Words.{itemWidth}
 use Rattle.format.specs.Sections.{itemOf}
 use Rattle.format.specs.WellFormed.{isSpan, sameSpan, withSome, numbered, onlyIf, word, recordOf, itemFrom}
 use Rattle.format.proofs.Ranges.{none-past}
+use Rattle.laws.proofs.Froms.{from-got, only-some}
+use Rattle.laws.proofs.Told.{told}
 use Rattle.laws.proofs.Truth.{and-both}
+use Rattle.laws.proofs.Whole.{whole-got}
 use Rattle.table_pieces.specs.Bytes.{byteOf}
-use Rattle.table_pieces.proofs.Facts.{byte-says}
-use Rattle.table_pieces.proofs.Tested.{Recorded}
-use Rattle.table_data.specs.Tests.{itemThere, shapeRight, numbersRight, itemRight}
+use Rattle.table_pieces.proofs.Facts.{byte-says, byte-kept}
+use Rattle.table_pieces.proofs.Tested.{Recorded, read-room}
+use Rattle.table_data.specs.Tests.{itemThere, kindOr1, kindThere, shapeRight, numbersRight, itemRight}
 
 -- ---- the kind as a byte
 
@@ -32,8 +41,12 @@ no-kind : (n : ℕ) → 255 ≤ n → kindOf n ≡ none
 no-kind zero h = absurd (omega arith)
 no-kind (suc n) h = sym (none-past kinds n (omega arith))
 
-pub kind-says : (v : ℤ) → numbered kindOf v ≡ kindOf (byteOf v)
+kind-says : (v : ℤ) → numbered kindOf v ≡ kindOf (byteOf v)
 kind-says v = byte-says kindOf no-kind v
+
+-- as the code reads it
+pub kind-read : (v : ℤ) {b : ℕ} {r s : MaybeDataKind} → mag v < 2 ^ 31 → b ≡ byteOf (toZ w32 (ofZ w32 v)) → maybeKind r ≡ kindOf b → r ≡ s → numbered kindOf v ≡ maybeKind s
+kind-read v small is said q = kind-says v ∙ ap kindOf (byte-kept v small is) ∙ told maybeKind said q
 
 -- ---- what its kind fixes
 
@@ -122,3 +135,20 @@ module _ (file : List ℕ) (words : List ℤ) where
 
   abbrev pub items : Recorded words (itemFrom file words)
   items = record { width = itemWidth; read = itemSaid file words; says = item-says }
+
+  -- ---- one that is known to be good is taken without the tests
+
+  stands-there : (w : ℕ) (o : Option DataKind) {d : DataItem} → withSome o (λ kind. onlyIf (itemRight file (itemThere words kind w)) (itemThere words kind w)) ≡ some d
+      → itemThere words (kindOr1 o) w ≡ d
+  stands-there w (some kind) e = only-some (itemRight file (itemThere words kind w)) (itemThere words kind w) e .1
+  stands-there w none e = let z : _≡_ {A = ℕ} 0 1 = cc in absurd (omega arith)
+
+  module _ (w : ℕ) (whole : Whole (itemFrom file words w)) where
+    pub item-inside : w + itemWidth ≤ length words
+    item-inside = read-room items w (whole-got (itemFrom file words w) whole .2)
+
+    pub item-there : got (itemThere words (kindThere words w) w) (w + itemWidth) ≡ itemFrom file words w
+    item-there =
+        let g = whole-got (itemFrom file words w) whole in
+        let i = from-got words itemWidth (itemSaid file words) w (sym (item-says w) ∙ g .2) in
+        sym (g .2 ∙ rw (i .ends, stands-there w (numbered kindOf (word words w)) (i .says)))

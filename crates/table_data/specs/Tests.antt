@@ -2,18 +2,28 @@
 use Prim.Native.Nat.{ℕ, _+_, _*_}
 use mathlib.Core.Bool.{Bool, false, _&&_}
 use mathlib.Core.List.{List}
+use mathlib.Core.Option.{Option, none, some}
 use lib.Dec.{eqb}
 use lib.IntN.{ℤ, pos, negsuc}
 use Rattle.format.specs.declared.module.DataKind.{DataKind}
+use Rattle.format.specs.declared.module.DataKind.the-variants as D
 use Rattle.format.specs.declared.module.DataItem.{DataItem}
 use Rattle.format.specs.declared.module.Shape.{Shape}
 use Rattle.format.specs.declared.module.Shape.the-variants as S
-use Rattle.format.specs.Records.{shapeOf}
-use Rattle.format.specs.WellFormed.{isSpan, word, span}
+use Rattle.format.specs.Records.{kindOf, shapeOf}
+use Rattle.format.specs.WellFormed.{isSpan, numbered, word, span}
 
 -- an item of a kind, as its words stand
 abbrev pub itemThere : List ℤ → DataKind → ℕ → DataItem
 itemThere words kind w = record { kind = kind; offset = word words (w + 1); count = word words (w + 2); value = span words (w + 3) (w + 4) }
+
+-- the kind that a word says, and 1 where it says none
+abbrev pub kindOr1 : Option DataKind → DataKind
+kindOr1 (some kind) = kind
+kindOr1 none = D.Bytes
+
+abbrev pub kindThere : List ℤ → ℕ → DataKind
+kindThere words w = kindOr1 (numbered kindOf (word words w))
 
 -- what a shape fixes of offset, count, and the value's start and length
 abbrev pub shapeRight : Shape → ℕ → ℕ → ℕ → ℕ → Bool

@@ -17,7 +17,7 @@ ghost use lib.ListN.{length};
 ghost use Rattle.format.specs.Records.{shapeOf};
 ghost use Rattle.format.specs.Words.{itemWidth};
 ghost use Rattle.format.specs.WellFormed.{itemFrom};
-ghost use Rattle.table_data.specs.Tests.{itemThere, shapeRight, valueRight, itemRight};
+ghost use Rattle.table_data.specs.Tests.{itemThere, kindThere, shapeRight, valueRight, itemRight};
 ghost use Rattle.table_data.specs.View.{itemStep};
 
 pub enum ItemFrom {
@@ -25,8 +25,8 @@ pub enum ItemFrom {
     Bad,
 }
 
-// As the words stand, of which the first says the kind.
-fn item_there(words: &[i32], kind: DataKind, w: usize) -> DataItem
+// Of a kind, as the words stand.
+fn item_of(words: &[i32], kind: DataKind, w: usize) -> DataItem
     requires { ⌜ w + itemWidth ≤ length (now words) ⌝ }
     ensures { λ r. ⌜ r ≡ itemThere (now (words .entry)) kind w ⌝ }
 {
@@ -38,6 +38,17 @@ fn item_there(words: &[i32], kind: DataKind, w: usize) -> DataItem
             start: words[w + 3],
             len: words[w + 4],
         },
+    }
+}
+
+// As the words stand, of which the first is known to say a kind.
+pub fn item_there(words: &[i32], w: usize) -> DataItem
+    requires { ⌜ w + itemWidth ≤ length (now words) ⌝ }
+    ensures { λ r. ⌜ r ≡ itemThere (now (words .entry)) (kindThere (now (words .entry)) w) w ⌝ }
+{
+    match data_kind(byte_of(words[w])) {
+        MaybeDataKind::Is(kind) => item_of(words, kind, w),
+        MaybeDataKind::Unknown => item_of(words, DataKind::Bytes, w),
     }
 }
 
@@ -107,7 +118,7 @@ pub fn item_from(file: &[u8], words: &[i32], w: usize) -> ItemFrom
     let MaybeDataKind::Is(kind) = data_kind(byte_of(words[w])) else {
         return ItemFrom::Bad;
     };
-    let item = item_there(words, kind, w);
+    let item = item_of(words, kind, w);
     if item_right(file, item) {
         ItemFrom::Got(item)
     } else {

@@ -8,24 +8,20 @@ use table_data::ItemFrom;
 use table_data::item_from;
 use table_handlers::CaseFrom;
 use table_handlers::case_from;
-use table_handlers::case_there;
 use table_names::ExportFrom;
 use table_names::FunctionFrom;
 use table_names::export_from;
-use table_names::export_there;
 use table_names::function_from;
-use table_names::function_there;
 use table_types::TypeFrom;
 use table_types::type_from;
-use table_types::type_there;
 ghost use mathlib.Core.Path.{_≡_};
-ghost use Rattle.format.specs.Reading.{Whole, many, endOf};
+ghost use Rattle.format.specs.Reading.{many, endOf};
 ghost use Rattle.format.specs.WellFormed.{instructionFrom};
 ghost use Rattle.laws.proofs.Scans.{renamed};
 ghost use Rattle.table_rows.specs.Rows.{rowWidth, rowFrom};
 ghost use Rattle.table_rows.specs.View.{rowStep, endFrom};
 
-pub enum RowFrom {
+enum RowFrom {
     Got(Row),
     Bad,
 }
@@ -89,21 +85,6 @@ fn row_from(file: &[u8], words: &[i32], kind: Kind, w: usize) -> RowFrom
             CaseFrom::Bad => RowFrom::Bad,
             CaseFrom::Got(case) => RowFrom::Got(Row::Case(case)),
         },
-    }
-}
-
-// A row that is known to be good: names are not looked at again, nor the ones of a map counted.
-pub fn row_of(file: &[u8], words: &[i32], kind: Kind, w: usize) -> RowFrom
-    requires { ⌜ Whole (rowFrom (now file) (now words) kind w) ⌝ }
-    ensures { λ r. ⌜ rowStep kind w r ≡ rowFrom (now (file .entry)) (now (words .entry)) kind w ⌝ }
-{
-    match kind {
-        Kind::Code => code_row(words, w),
-        Kind::Types => RowFrom::Got(Row::Type(type_there(words, w))),
-        Kind::Items => item_row(file, words, w),
-        Kind::Exports => RowFrom::Got(Row::Export(export_there(words, w))),
-        Kind::Functions => RowFrom::Got(Row::Function(function_there(words, w))),
-        Kind::Cases => RowFrom::Got(Row::Case(case_there(words, w))),
     }
 }
 

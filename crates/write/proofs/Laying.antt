@@ -12,6 +12,7 @@ use Rattle.laws.proofs.Flatten.{flatten-append}
 use Rattle.laws.proofs.Many.{leading-done, leading-turn}
 use Rattle.laws.proofs.Scans.{reached-done, reached-turn, many-renamed, leading-renamed, flatten-renamed}
 use Rattle.laws.proofs.Whole.{whole-part, whole-first, whole-next}
+use Rattle.rows.specs.declared.Kind.{Kind}
 use Rattle.rows.specs.declared.Kind.the-variants as K
 use Rattle.rows.specs.declared.Row.the-variants as R
 use lib.IntN.{ℤ}
@@ -19,16 +20,18 @@ use lib.ListN.{length, length-append}
 use Rattle.laws.proofs.Put.{length-put}
 use native.Mathlib.Omega.{arith}
 use Rattle.format.specs.Put.{put}
-use Rattle.lines.specs.Lines.{bytesOf, firstWide}
+use Rattle.lines.specs.Lines.{bytesOf, firstWide, rowLine}
 use Rattle.lines.proofs.Forms.{both-none, wide-append}
 use Rattle.table_lines.specs.There.{partsThere}
 use Rattle.table_lines.specs.Over.{Over}
 use Rattle.table_lines.proofs.Overs.{stored-over, over-same}
 use Rattle.line_bytes.specs.Laid.{Ready, Laid}
 use Rattle.line_bytes.proofs.Chain.{Writing, writing, ready, ready-last, step, finish, finish-last}
-use Rattle.table_rows.specs.Rows.{rowFrom}
+use Rattle.table_rows.specs.Rows.{rowWidth, rowFrom}
 use Rattle.measure.specs.Measured.{rowLines}
+use Rattle.measure.specs.Rows.{partsIn}
 use Rattle.measure.proofs.Coded.{Coded, coded}
+use Rattle.measure.proofs.Rowed.{Rowed, rowed}
 use Rattle.write.specs.Wrote.{partsOf, instructionLines}
 
 pub parts-append : (xs ys : List Line) → partsOf (xs ++ ys) ≡ partsOf xs ++ partsOf ys
@@ -123,6 +126,26 @@ module _ {A : Type 0} (lines : A → List Line) (read : Reads ℕ A) where
 
       pub ended : here ≡ reached read n w
       ended = sym (reached-done read left here z) ∙ y .stopped
+
+-- ---- a row of any kind that is written by its words
+
+module _ (file : List ℕ) (words : List ℤ) (kind : Kind) {n w at : ℕ} {l₀ : List ℕ} {left here place : ℕ} {l : List ℕ}
+    (y : Laying (rowLines file) (rowFrom file words kind) n w at l₀ left here place l) (more : 0 < left) where
+  pub row-whole : Whole (rowFrom file words kind here)
+  row-whole = whole-first (rowFrom file words kind) left here (y .all) more
+
+  pub row-here : Rowed file words kind here
+  row-here = rowed file words kind here row-whole
+
+  row-parts : partsIn file (rowFrom file words kind here) ≡ partsOf (rowLines file (row-here .row))
+  row-parts = ap (partsIn file) (row-here .read) ∙ sym (single (rowLine file (row-here .row)))
+
+  pub row-ready : Ready (partsIn file (rowFrom file words kind here)) place l
+  row-ready = subst (λ (ps : List Part). Ready ps place l) (sym row-parts) (next-ready (rowLines file) (rowFrom file words kind) y more (row-here .read))
+
+  pub row-turn : {place′ : ℕ} {l′ : List ℕ} → Laid (partsIn file (rowFrom file words kind here)) place l place′ l′
+      → Laying (rowLines file) (rowFrom file words kind) n w at l₀ (left - 1) (here + rowWidth kind) place′ l′
+  row-turn {place′} {l′} d = turn (rowLines file) (rowFrom file words kind) y more (row-here .read) (subst (λ (ps : List Part). Laid ps place l place′ l′) row-parts d)
 
 -- ---- instructions, as rows and by themselves
 

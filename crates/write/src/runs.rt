@@ -1,26 +1,49 @@
 // One loop for every run of rows of one kind.
-use line_bytes::put_row;
+use line_bytes::put_case;
+use line_bytes::put_export;
+use line_bytes::put_function;
+use line_bytes::put_item;
+use line_bytes::put_type;
 use rows::Kind;
+use table_data::item_there;
+use table_handlers::case_there;
 use table_lines::bytes::put_there;
 use table_lines::slots::put_over;
-use table_rows::RowFrom;
-use table_rows::row_of;
+use table_names::export_there;
+use table_names::function_there;
 use table_rows::row_width;
+use table_types::type_there;
 ghost use Prim.Native.Nat.{_≤_};
 ghost use lib.ListN.{length};
 ghost use Rattle.format.specs.Reading.{many, leading, reached, Whole};
 ghost use Rattle.format.specs.Records.{sizeLimit};
 ghost use Rattle.format.specs.WellFormed.{instructionFrom};
 ghost use Rattle.format.specs.Words.{flatten};
-ghost use Rattle.line_bytes.specs.Laid.{Ready};
+ghost use Rattle.line_bytes.specs.Laid.{Ready, Laid};
 ghost use Rattle.table_rows.specs.Rows.{rowFrom};
 ghost use Rattle.measure.specs.Measured.{rowLines};
+ghost use Rattle.measure.specs.Rows.{partsIn};
 ghost use Rattle.write.specs.Wrote.{partsOf, instructionLines, Done};
 
 // The word where the next record begins, and the place past what was written.
 pub struct Wrote {
     pub next: usize,
     pub place: usize,
+}
+
+// A row that is known to be good: names are not looked at again, nor the ones of a map counted.
+fn put_from(file: &[u8], words: &[i32], kind: Kind, w: usize, out: &mut [u8], at: usize) -> usize
+    requires { ⌜ (length (now file) ≤ sizeLimit) × Whole (rowFrom (now file) (now words) kind w) × Ready (partsIn (now file) (rowFrom (now file) (now words) kind w)) at (now out) ⌝ }
+    ensures { λ r. ⌜ Laid (partsIn (now (file .entry)) (rowFrom (now (file .entry)) (now (words .entry)) kind w)) at (now (out .entry)) r (now (out .exit)) ⌝ }
+{
+    match kind {
+        Kind::Code => put_there(words, w, out, at),
+        Kind::Types => put_type(file, out, at, type_there(words, w)),
+        Kind::Items => put_item(file, out, at, item_there(words, w)),
+        Kind::Exports => put_export(file, out, at, export_there(words, w)),
+        Kind::Functions => put_function(file, out, at, function_there(words, w)),
+        Kind::Cases => put_case(file, out, at, case_there(words, w)),
+    }
 }
 
 fn write_each(
@@ -40,12 +63,7 @@ fn write_each(
     let mut left = n;
     let mut place = at;
     while 0 < left {
-        match row_of(file, words, kind, here) {
-            RowFrom::Bad => return Wrote { next: here, place },
-            RowFrom::Got(row) => {
-                place = put_row(file, out, place, row);
-            }
-        }
+        place = put_from(file, words, kind, here, out, place);
         here += width;
         left -= 1;
     }

@@ -1,16 +1,14 @@
 use Prim.Native.Nat.{_+_, _≤_, min}
-use mathlib.Core.Path.{_≡_, sym, ap, _∙_}
+use mathlib.Core.Path.{_≡_, sym}
 use native.Mathlib.Omega.{arith}
 use denote.Ref.{now}
 use lib.ListN.{length}
 use Rattle.format.specs.declared.module.MaybeDataKind.{MaybeDataKind}
 use Rattle.format.specs.Records.{wordLimit, kindOf, maybeKind}
 use Rattle.format.specs.WellFormed.{numbered, word}
-use Rattle.laws.proofs.Told.{told}
-use Rattle.table_pieces.proofs.Facts.{byte-kept}
 use Rattle.table_pieces.proofs.Tested.{fits, no-room, is-read, is-bad, only-passes, only-fails}
 use Rattle.table_data.specs.Tests.{itemRight}
-use Rattle.table_data.proofs.Items.{kind-says, items}
+use Rattle.table_data.proofs.Items.{kind-read, items}
 use borrow.Author.Needs.{needs}
 use Rattle.table_data.proofs.item_from.Statement.{statement}
 use Rattle.table_data.proofs.item_from.Tie as tie
@@ -32,8 +30,7 @@ kind-is : (c : tie.After-data-kind) {r : MaybeDataKind} → c .data-kind .result
 kind-is c q =
     let b = c .before in
     let a = b .before .before .before .before .before .args in
-    let v = word (now (a .words)) (a .w) in
-    kind-says v ∙ ap kindOf (byte-kept v (b .before .byte-of-arg .given) (b .byte-of .ensures)) ∙ told maybeKind (c .data-kind .ensures) q
+    kind-read (word (now (a .words)) (a .w)) (b .before .byte-of-arg .given) (b .byte-of .ensures) (c .data-kind .ensures) q
 
 mul-byte-of : tie.Need-mul-byte-of
 mul-byte-of c = omega (arith, room c)
@@ -41,8 +38,8 @@ mul-byte-of c = omega (arith, room c)
 shared-slice-copy-out-byte-of : tie.Need-shared-slice-copy-out-byte-of
 shared-slice-copy-out-byte-of c = omega (arith, room c)
 
-item-there-requires : tie.Need-item-there-requires
-item-there-requires c κs = omega (arith, room (c .before .before .before .before .before .before))
+item-of-requires : tie.Need-item-of-requires
+item-of-requires c κs = omega (arith, room (c .before .before .before .before .before .before))
 
 returns-2 : tie.Need-returns-2
 returns-2 c =
@@ -59,7 +56,7 @@ returns-3 c =
     let e = k .before .before .before .before .before in
     let a = e .before .before .before .args in
     is-read (items (now (a .file)) (now (a .words))) (a .w) (room e)
-    (rw (kind-is (k .before .before) (k .kind .given .1)) (sym (only-passes (itemRight (now (a .file))) (t .item-there .ensures) (r .item-right .ensures) (c .if2 .taken))))
+    (rw (kind-is (k .before .before) (k .kind .given .1)) (sym (only-passes (itemRight (now (a .file))) (t .item-of .ensures) (r .item-right .ensures) (c .if2 .taken))))
 
 returns-4 : tie.Need-returns-4
 returns-4 c =
@@ -69,7 +66,7 @@ returns-4 c =
     let e = k .before .before .before .before .before in
     let a = e .before .before .before .args in
     is-bad (items (now (a .file)) (now (a .words))) (a .w) (room e)
-    (rw (kind-is (k .before .before) (k .kind .given .1)) (sym (only-fails (itemRight (now (a .file))) (t .item-there .ensures) (r .item-right .ensures) (c .if2 .left))))
+    (rw (kind-is (k .before .before) (k .kind .given .1)) (sym (only-fails (itemRight (now (a .file))) (t .item-of .ensures) (r .item-right .ensures) (c .if2 .left))))
 
 pub item-from-spec : {M : Type 1} → statement M
 item-from-spec =
@@ -84,7 +81,7 @@ item-from-spec =
     (λ c. search needs)
     (λ c. search needs)
     returns-2
-    item-there-requires
+    item-of-requires
     (λ c κs. search needs)
     returns-3
     returns-4)

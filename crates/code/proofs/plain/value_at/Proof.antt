@@ -1,27 +1,35 @@
-use mathlib.Core.Path.{_∙_}
+use Prim.Native.Nat.{_<_, _^_}
+use mathlib.Core.Path.{_≡_, _∙_}
 use native.Mathlib.Omega.{arith}
-use borrow.Author.Needs.{sfits-of}
-use denote.Ref.{now}
-use mir.Facts.{toZ-ofZ}
-use Rattle.code.proofs.PlainLaws.{Valued, valued-at}
 use borrow.Author.Needs.{needs}
+use denote.Ref.{now}
+use lib.IntN.{pos, _-ℤ_}
+use mir.Syntax.{w32}
+use mir.Val.{toZ}
+use mir.Facts.{toZ-ofZ, toZ-pos}
+use Rattle.code.proofs.PlainLaws.{valued-at, half-fits, raised-fits, minus-fits}
 use Rattle.code.proofs.plain.value_at.Statement.{statement}
 use Rattle.code.proofs.plain.value_at.Tie as tie
 
--- the value of the bytes there
-valued : (c : tie.After-bits-in) → let a = c .before .before .before .before .before .before .before .before .args in Valued (now (a .file)) (a .c)
-valued c =
-    let k = c .before .before .before .before .before .before .before in
-    let a = k .before .args in
-    valued-at (now (a .file)) (a .c) (k .before .pre) (λ i. omega (arith, k .shared-slice-known .given i))
+raised-small : (c : tie.After-raised) → c .raised .result < 2 ^ 31
+raised-small c = rw (c .raised .ensures) (raised-fits _ _)
 
-signed-requires : tie.Need-signed-requires
-signed-requires c κs = let v = valued c in rw (c .bits-in .ensures, c .before .half-of .ensures, c .before .before .be32 .ensures) (v .most, v .half)
+half-small : (c : tie.After-half-of) → c .half-of .result < 2 ^ 31
+half-small c = rw (c .half-of .ensures) (half-fits _)
+
+-- both numbers are what they were cast from
+difference : (c : tie.After-half-of) → toZ w32 (c .before .raised .result) -ℤ toZ w32 (c .half-of .result) ≡ pos (c .before .raised .result) -ℤ pos (c .half-of .result)
+difference c = rw (toZ-pos w32 (raised-small (c .before)), toZ-pos w32 (half-small c))
+
+sub-result : tie.Need-sub-result
+sub-result c = rw (difference c) (record { sfits = minus-fits _ _ (raised-small (c .before)) (half-small c) })
 
 returns : tie.Need-returns
 returns c =
-    let b = c .before in
-    toZ-ofZ (sfits-of (c .signed .ok)) ∙ c .signed .ensures ∙ rw (b .bits-in .ensures, b .before .half-of .ensures, b .before .before .be32 .ensures) (valued b .value)
+    let k = c .before .before .before .before .before .before .before in
+    let a = k .before .args in
+    toZ-ofZ (sub-result c) ∙ difference c ∙ rw (c .half-of .ensures, c .before .raised .ensures, c .before .before .be32 .ensures)
+    (valued-at (now (a .file)) (a .c) (k .before .pre) (λ i. omega (arith, k .shared-slice-known .given i)))
 
 pub value-at-spec : {M : Type 1} → statement M
 value-at-spec =
@@ -36,6 +44,8 @@ value-at-spec =
     (λ c. search needs)
     (λ c κs. search needs)
     (λ c κs. search needs)
+    (λ c. record { sfits = raised-small c })
     (λ c κs. search needs)
-    signed-requires
+    (λ c. record { sfits = half-small c })
+    sub-result
     returns)

@@ -14,8 +14,9 @@ use Rattle.fill.proofs.instructions.put_addressed.Tie as tie
 
 returns : tie.Need-returns
 returns c =
-    let p = c .before .before in
-    let s = p .before .before in
+    let p = c .before in
+    let t = p .before .before in
+    let s = t .before in
     let f = s .before in
     let o = f .before in
     let a = o .before .before .args in
@@ -23,7 +24,7 @@ returns c =
     let n = operandsFor (modeOf (a .mode)) in
     let first : f .first-of .result ≡ firstOf n file (a .c) = f .first-of .ensures ∙ ap (λ (k : ℕ). firstOf k file (a .c)) (o .operands-for .ensures) in
     let second : s .second-of .result ≡ secondOf n file (a .c) = s .second-of .ensures ∙ ap (λ (k : ℕ). secondOf k file (a .c)) (o .operands-for .ensures) in (
-      c .past-two .ensures ∙ ap (λ (k : ℕ). pastOperands file k (a .c)) (o .operands-for .ensures),
+      t .past-two .ensures ∙ ap (λ (k : ℕ). pastOperands file k (a .c)) (o .operands-for .ensures),
       three-numbered (a .w) (now (a .words)) (a .mode) (a .mode) (f .first-of .result) (s .second-of .result) (p .put-three .ensures) refl (omega (arith, o .before .before .pre .0)) (omega (arith, f .first-of .ok)) (omega (arith, s .second-of .ok))
           ∙ ap (λ (x : ℤ). put (a .w) (pos (a .mode) ∷ x ∷ s .second-of .result ∷ []) (now (a .words))) first
           ∙ ap (λ (x : ℤ). put (a .w) (pos (a .mode) ∷ firstOf n file (a .c) ∷ x ∷ []) (now (a .words))) second,
@@ -36,8 +37,8 @@ put-addressed-spec =
     (λ c κs. search needs)
     (λ c κs. search needs)
     (λ c κs. search needs)
-    (λ c. search needs)
     (λ c κs. search needs)
+    (λ c. search needs)
     (λ c κs. search needs)
     (λ c. search needs)
     returns)

@@ -5,13 +5,15 @@ use native.Mathlib.Nat.{add-zero}
 use native.Mathlib.Omega.{arith}
 use lib.ListN.{length}
 use denote.Ref.{now}
+use Rattle.format.specs.declared.module.DataItem.{DataItem}
 use Rattle.format.specs.Reading.{got, tally}
 use Rattle.format.specs.Sections.{itemAt, itemsAt}
 use Rattle.laws.proofs.Items.{items-turn, items-end, items-stop}
 use Rattle.laws.proofs.Moves.{item-far}
 use Rattle.laws.proofs.Scans.{plus, plus-zero, plus-plus, tally-before}
 use Rattle.laws.proofs.Told.{told}
-use Rattle.data.specs.View.{itemRead}
+use Rattle.data.specs.View.{itemEnd}
+use Rattle.data.proofs.Skipped.{skipped-some, skipped-none, skipped-refused}
 use Rattle.scan.specs.Sums.{one}
 use borrow.Author.Needs.{needs}
 use Rattle.scan.proofs.sections.scan_items.Statement.{statement}
@@ -31,29 +33,29 @@ returns : tie.Need-returns Inv-loop μ-loop
 unfolding tally
 returns c =
     let r = c .before .before .before in
-    rw (items-stop _ _ (told itemRead (r .read-item .ensures) (c .before .why .given .1))) at (r .before .loop .inv .0)
+    rw (items-stop _ _ (skipped-refused _ (told itemEnd (r .skip-item .ensures) (c .before .why .given .1)))) at (r .before .loop .inv .0)
 
 returns-2 : tie.Need-returns-2 Inv-loop μ-loop
 unfolding tally
 returns-2 c =
     let r = c .before .before .before in
-    rw (items-end _ _ (told itemRead (r .read-item .ensures) (c .before .next .given .1)), add-zero) at (r .before .loop .inv .0)
+    rw (items-end _ _ (skipped-none _ (told itemEnd (r .skip-item .ensures) (c .before .next .given .1))), add-zero) at (r .before .loop .inv .0)
 
+-- an item stands here
 item-is : (c : tie.After-known-told3 Inv-loop μ-loop) →
     let l = c .before .before .before .before in
-    let n = c .before .next2 .given .0 in
-    itemAt (now (l .before .before .args .file)) (l .loop .here) ≡ got (some (n .0)) (n .1 .0)
-item-is c = told itemRead (c .before .before .before .read-item .ensures) (c .before .next2 .given .1)
+    (d : DataItem) × (itemAt (now (l .before .before .args .file)) (l .loop .here) ≡ got (some d) (c .before .next2 .given .0 .0))
+item-is c = skipped-some _ (told itemEnd (c .before .before .before .skip-item .ensures) (c .before .next2 .given .1))
 
 add-count : tie.Need-add-count Inv-loop μ-loop
-add-count c = omega (arith, item-far _ _ _ (item-is c))
+add-count c = omega (arith, item-far _ _ _ (item-is c .1))
 
 loop-less : tie.Need-loop-less Inv-loop μ-loop
-loop-less c = omega (arith, item-far _ _ _ (item-is c))
+loop-less c = omega (arith, item-far _ _ _ (item-is c .1))
 
 loop-again : tie.Need-loop-again Inv-loop μ-loop
 loop-again c =
-    (rw plus-plus (rw (items-turn _ _ (item-is c), tally-before) at (c .before .before .before .before .loop .inv .0)), omega (arith, item-far _ _ _ (item-is c)))
+    (rw plus-plus (rw (items-turn _ _ (item-is c .1), tally-before) at (c .before .before .before .before .loop .inv .0)), omega (arith, item-far _ _ _ (item-is c .1)))
 
 pub scan-items-spec : {M : Type 1} → statement M
 scan-items-spec =

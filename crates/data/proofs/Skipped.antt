@@ -1,0 +1,56 @@
+-- An item that is passed over: where it ends, and what a caller learns of it.
+-- Assumes nothing.
+use Prim.Native.Nat.{ℕ}
+use mathlib.Core.Path.{_≡_, ap}
+use mathlib.Core.Bool.{true, false}
+use mathlib.Core.List.{List}
+use mathlib.Core.Option.{Option, none, some}
+use native.Mathlib.Omega.{arith}
+use lib.IntN.{ℤ}
+use Rattle.format.specs.declared.types.Cursor.{Cursor}
+use Rattle.format.specs.declared.module.DataItem.{DataItem}
+use Rattle.format.specs.declared.module.DataKind.{DataKind}
+use Rattle.format.specs.declared.refusal.Refusal.{Refusal}
+use Rattle.format.specs.Reading.{Step, got, refused, andThen, give, ends, stops, endOf}
+use Rattle.format.specs.Records.{shapeOf}
+use Rattle.format.specs.Sections.{passOver, valueAt}
+use Rattle.data.specs.declared.PassRead.{PassRead}
+use Rattle.data.specs.declared.PassRead.the-variants as PassRead-is
+use Rattle.data.specs.View.{passRead, passEnd, skipped}
+
+-- the value ends where it was passed over, whatever the record
+pub value-ends : (file : List ℕ) (kind : DataKind) (offset : ℤ) (n : ℕ) (c : Cursor) (r : PassRead)
+    → passRead r ≡ passOver file (shapeOf kind) n c → passEnd r ≡ endOf (valueAt file kind offset n c)
+unfolding valueAt endOf
+value-ends file kind offset n c (PassRead-is.Got next) e = rw (← e)
+value-ends file kind offset n c (PassRead-is.Refused why) e = rw (← e)
+
+-- an item by its rest
+pub skipped-item : (s : Step Cursor DataItem) {q : Cursor} → endOf s ≡ ends q → got true q ≡ skipped (andThen s (λ item. give (some item)))
+unfolding endOf skipped
+skipped-item (got d next) e = cc
+skipped-item (refused r) e = let z : _≡_ {A = ℕ} 0 1 = cc in absurd (omega arith)
+
+pub skipped-stops : (s : Step Cursor DataItem) {why : Refusal} → endOf s ≡ stops why → refused why ≡ skipped (andThen s (λ item. give (some item)))
+unfolding endOf skipped
+skipped-stops (got d next) e = let z : _≡_ {A = ℕ} 0 1 = cc in absurd (omega arith)
+skipped-stops (refused r) e = cc
+
+-- what was passed over could be read
+pub skipped-some : (s : Step Cursor (Option DataItem)) {q : Cursor} → skipped s ≡ got true q → (d : DataItem) × (s ≡ got (some d) q)
+unfolding skipped
+skipped-some (got (some d) next) e = (d, ap (got (some d)) (cc))
+skipped-some (got none next) e = let z : _≡_ {A = ℕ} 0 1 = cc in absurd (omega arith)
+skipped-some (refused r) e = let z : _≡_ {A = ℕ} 0 1 = cc in absurd (omega arith)
+
+pub skipped-none : (s : Step Cursor (Option DataItem)) {q : Cursor} → skipped s ≡ got false q → s ≡ got none q
+unfolding skipped
+skipped-none (got (some d) next) e = cc
+skipped-none (got none next) e = cc
+skipped-none (refused r) e = cc
+
+pub skipped-refused : (s : Step Cursor (Option DataItem)) {why : Refusal} → skipped s ≡ refused why → s ≡ refused why
+unfolding skipped
+skipped-refused (got (some d) next) e = cc
+skipped-refused (got none next) e = cc
+skipped-refused (refused r) e = cc
