@@ -25,8 +25,9 @@ use Rattle.format.specs.declared.instruction.MiddleMode.{MiddleMode}
 use Rattle.format.specs.declared.instruction.MiddleMode.the-variants as M
 use Rattle.format.specs.Reading.{got, found, past, endOf, ends}
 use Rattle.format.specs.Operands.{byte, operandAt}
-use Rattle.format.specs.Records.{modeOf, modeNumber, middleOf, middleNumber}
+use Rattle.format.specs.Records.{modes, modeOf, modeNumber, middleOf, middleNumber}
 use Rattle.format.specs.Sections.{oneRegister, twoRegisters, addressedAt, middleRegister, middleAt, operandsAt, instructionAt}
+use Rattle.format.proofs.Ranges.{none-past}
 use Rattle.laws.proofs.OperandCases.{byte-there, operand-low, operand-minus, operand-two, operand-four}
 use Rattle.laws.proofs.Truth.{and-both}
 use Rattle.reader.proofs.Facts.{less-128}
@@ -163,17 +164,23 @@ pub middles-most : (o : Option MiddleMode) → middlesFor o ≤ 9
 middles-most (some mode) = omega (arith, middle-at-most mode)
 middles-most none = omega arith
 
--- the code's table, four bits a mode
-pub table-says : (mode : ℕ) → mode < 8 → 0x99220111 / 2 ^ (4 * mode) % 16 ≡ operandsFor (modeOf mode)
-table-says zero h = refl
-table-says (suc zero) h = refl
-table-says (suc (suc zero)) h = refl
-table-says (suc (suc (suc zero))) h = refl
-table-says (suc (suc (suc (suc zero)))) h = refl
-table-says (suc (suc (suc (suc (suc zero))))) h = refl
-table-says (suc (suc (suc (suc (suc (suc zero)))))) h = refl
-table-says (suc (suc (suc (suc (suc (suc (suc zero))))))) h = refl
-table-says (suc (suc (suc (suc (suc (suc (suc (suc n)))))))) h = absurd (omega arith)
+pub operands-one : (mode : ℕ) → mode ≤ 2 → operandsFor (modeOf mode) ≡ 1
+operands-one zero h = refl
+operands-one (suc zero) h = refl
+operands-one (suc (suc zero)) h = refl
+operands-one (suc (suc (suc n))) h = absurd (omega arith)
+
+pub operands-two : (mode : ℕ) → 4 ≤ mode → mode ≤ 5 → operandsFor (modeOf mode) ≡ 2
+operands-two zero l h = absurd (omega arith)
+operands-two (suc zero) l h = absurd (omega arith)
+operands-two (suc (suc zero)) l h = absurd (omega arith)
+operands-two (suc (suc (suc zero))) l h = absurd (omega arith)
+operands-two (suc (suc (suc (suc zero)))) l h = refl
+operands-two (suc (suc (suc (suc (suc zero))))) l h = refl
+operands-two (suc (suc (suc (suc (suc (suc n)))))) l h = absurd (omega arith)
+
+pub operands-none : (mode : ℕ) → 6 ≤ mode → operandsFor (modeOf mode) ≡ 9
+operands-none mode h = rw (← none-past modes mode h)
 
 pub middles-none : (n : ℕ) → n ≡ 0 → middlesFor (middleOf n) ≡ 0
 middles-none n e = rw e

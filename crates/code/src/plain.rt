@@ -2,9 +2,10 @@
 // read with no refusal in sight, so that the answers are plain values.
 use bits::be32;
 use format::types::Cursor;
+use values::instruction::addressing_of;
 use values::opcode::is_opcode;
 ghost use mathlib.Core.Path.{_≡_};
-ghost use Prim.Native.Nat.{_+_, _/_, _≤_, _<_};
+ghost use Prim.Native.Nat.{_+_, _/_, _≤_};
 ghost use lib.ListN.{length};
 ghost use Rattle.format.specs.Records.{modeOf, middleOf};
 ghost use Rattle.code.specs.Plain as Spec;
@@ -20,12 +21,16 @@ pub fn width(b: u8) -> usize
     }
 }
 
-// The operands of each mode, four bits a mode: a table that stands in one number, where an array would be built at each use.
+// The operands that a mode has; for what is no mode, more than an instruction can have.
 pub fn operands_for(mode: u8) -> u32
-    requires { ⌜ mode < 8 ⌝ }
     ensures { λ r. ⌜ r ≡ Spec.operandsFor (modeOf mode) ⌝ }
 {
-    (0x9922_0111 >> (4 * (mode as u32))) % 16
+    match mode {
+        0..=2 => 1,
+        3 => 0,
+        4..=5 => 2,
+        6..=255 => 9,
+    }
 }
 
 // The middle operands that an addressing byte says: one or none.
@@ -41,7 +46,8 @@ pub fn middles_in(b: u8) -> u32
 pub fn operands_in(b: u8) -> u32
     ensures { λ r. ⌜ r ≡ Spec.operandsIn b ⌝ }
 {
-    middles_in(b) + operands_for((b >> 3) % 8) + operands_for(b % 8)
+    let modes = addressing_of(b);
+    middles_in(b) + operands_for(modes.source) + operands_for(modes.destination)
 }
 
 pub fn is_plain(file: &[u8], c: Cursor) -> bool

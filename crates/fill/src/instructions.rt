@@ -13,10 +13,11 @@ use rows::Kind;
 use store::put_instruction;
 use store::put_three;
 use store::put_two;
+use values::instruction::addressing_of;
 ghost use mathlib.Core.Bool.{true};
 ghost use mathlib.Core.List.{[], _∷_};
 ghost use mathlib.Core.Path.{_≡_};
-ghost use Prim.Native.Nat.{_+_, _/_, _≤_, _<_};
+ghost use Prim.Native.Nat.{_+_, _/_, _≤_};
 ghost use lib.IntN.{pos};
 ghost use lib.ListN.{length};
 ghost use Rattle.code.specs.Plain.{firstOf, secondOf, pastOperands, operandsFor, middlesFor, isPlain};
@@ -29,7 +30,7 @@ ghost use Rattle.fill.specs.Filled.{Stored, One, wordsIn};
 
 // A source or a destination: its mode and the registers that the mode has.
 fn put_addressed(file: &[u8], mode: u8, c: Cursor, words: &mut [i32], w: usize) -> Cursor
-    requires { ⌜ (mode < 8) × (operandsFor (modeOf mode) ≤ 2) × (c .at + 8 ≤ length (now file)) × (w + 3 ≤ length (now words)) ⌝ }
+    requires { ⌜ (operandsFor (modeOf mode) ≤ 2) × (c .at + 8 ≤ length (now file)) × (w + 3 ≤ length (now words)) ⌝ }
     ensures { λ r. ⌜ (r ≡ pastOperands (now (file .entry)) (operandsFor (modeOf mode)) c) × (now (words .exit) ≡ put w (pos mode ∷ firstOf (operandsFor (modeOf mode)) (now (file .entry)) c ∷ secondOf (operandsFor (modeOf mode)) (now (file .entry)) c ∷ []) (now (words .entry))) ⌝ }
 {
     let n = operands_for(mode);
@@ -54,12 +55,13 @@ fn put_plain(file: &[u8], c: Cursor, words: &mut [i32], w: usize) -> Cursor
 {
     let at = c.at;
     let b = file[at + 1];
+    let modes = addressing_of(b);
     let middle = c.past(2);
     let source = past_two(file, middles_in(b), middle);
     words[w] = file[at] as i32;
-    let destination = put_addressed(file, (b >> 3) % 8, source, words, w + 1);
+    let destination = put_addressed(file, modes.source, source, words, w + 1);
     put_middle(file, b, middle, words, w + 4);
-    put_addressed(file, b % 8, destination, words, w + 6)
+    put_addressed(file, modes.destination, destination, words, w + 6)
 }
 
 // An instruction, stored; where it is refused, nothing.

@@ -1,6 +1,6 @@
 -- The data section, one item after another: how many items there can be is never too few.
 -- Assumes nothing.
-use Prim.Native.Nat.{ℕ, _-_, _≤_}
+use Prim.Native.Nat.{ℕ, _-_}
 use mathlib.Core.Path.{_≡_}
 use mathlib.Core.List.{List, []}
 use mathlib.Core.Option.{none, some}
@@ -9,7 +9,7 @@ use lib.ListN.{length}
 use Rattle.laws.proofs.Types.{Cursor, Refusal, DataItem}
 use Rattle.format.specs.Reading.{got, refused, before, many}
 use Rattle.format.specs.Sections.{itemAt, itemsAt}
-use Rattle.laws.proofs.Until.{until-turn, until-end, until-stop, someOf, until-many, many-until}
+use Rattle.laws.proofs.Until.{until-turn, until-end, until-stop, someOf, until-many}
 use Rattle.laws.proofs.Moves.{item-moves, moves-less}
 
 module _ (file : List ℕ) where
@@ -34,8 +34,3 @@ module _ (file : List ℕ) where
         → (last : Cursor) × (many (someOf (itemAt file) why) (length items) p ≡ got items last) × (itemAt file last ≡ got none q)
     unfolding itemsAt
     items-many why e = until-many (itemAt file) why bytesLeft (moves-less file (item-moves file)) (length file) p (omega arith) e
-
-    pub many-items : (why : Refusal) (n : ℕ) {items : List DataItem} {last q : Cursor} → n ≤ length file
-        → many (someOf (itemAt file) why) n p ≡ got items last → itemAt file last ≡ got none q → itemsAt file p ≡ got items q
-    unfolding itemsAt
-    many-items why n h e z = many-until (itemAt file) why n (length file) p h e z

@@ -87,6 +87,11 @@ reached-many read = many-ind read (λ n p xs q. reached read n p ≡ q) (λ p. r
 abbrev pub renamed : {P A B : Type 0} → (A → B) → Reads P A → Reads P B
 renamed name read p = andThen (read p) (λ x. give (name x))
 
+pub end-named : {P A B : Type 0} (name : A → B) (s : Step P A) → endOf (andThen s (λ x. give (name x))) ≡ endOf s
+unfolding endOf
+end-named name (got x q) = refl
+end-named name (refused r) = refl
+
 total-renamed : {A B : Type 0} (name : A → B) (weigh : B → ℕ) (xs : List A) → total weigh (map name xs) ≡ total (λ x. weigh (name x)) xs
 total-renamed name weigh [] = refl
 total-renamed name weigh (x ∷ xs) = rw (total-renamed name weigh xs)
@@ -116,16 +121,8 @@ module _ {P A B : Type 0} (name : A → B) (read : Reads P A) where
   many-renamed zero p = refl
   many-renamed (suc n) p = one-renamed n (read p) (many-renamed n)
 
-  pub tally-renamed : (weigh : B → ℕ) (n : ℕ) (p : P) → tally weigh (many (renamed name read) n p) ≡ tally (λ x. weigh (name x)) (many read n p)
-  tally-renamed weigh n p = ap (tally weigh) (many-renamed n p) ∙ all-renamed name weigh (many read n p)
-
-  end-renamed : (s : Step P (List A)) → endOf (andThen s (λ xs. give (map name xs))) ≡ endOf s
-  unfolding endOf
-  end-renamed (got xs q) = refl
-  end-renamed (refused r) = refl
-
   pub scan-renamed : (n : ℕ) (p : P) → endOf (many (renamed name read) n p) ≡ endOf (many read n p)
-  scan-renamed n p = ap endOf (many-renamed n p) ∙ end-renamed (many read n p)
+  scan-renamed n p = ap endOf (many-renamed n p) ∙ end-named (map name) (many read n p)
 
   one-leading : (n : ℕ) (s : Step P A) → ((q : P) → leading (renamed name read) n q ≡ map name (leading read n q))
       → thenList (andThen s (λ x. give (name x))) (λ x next. x ∷ leading (renamed name read) n next) ≡ map name (thenList s (λ x next. x ∷ leading read n next))

@@ -1,14 +1,14 @@
 -- Records until there is none. How often `untilNone` may read does not matter, if it is enough: each reading leaves less to read.
 -- Assumes nothing.
-use Prim.Native.Nat.{ℕ, zero, suc, _-_, _≤_, _<_}
-use mathlib.Core.Path.{_≡_, refl, sym, ap, _∙_}
+use Prim.Native.Nat.{ℕ, zero, suc, _≤_, _<_}
+use mathlib.Core.Path.{_≡_, refl, sym, ap}
 use mathlib.Core.List.{List, [], _∷_}
 use lib.ListN.{length}
 use mathlib.Core.Option.{Option, none, some}
 use native.Mathlib.Omega.{arith}
 use Rattle.laws.proofs.Types.{Refusal}
 use Rattle.format.specs.Reading.{Step, got, refused, Reads, andThen, _>>=_, given, before, orEnd, many, untilNone}
-use Rattle.laws.proofs.Many.{parts-of, before-got, many-ind}
+use Rattle.laws.proofs.Many.{parts-of, before-got}
 
 module _ {P A : Type 0} (read : Reads P (Option A)) where
   pub until-end : (n : ℕ) (p : P) {next : P} → read p ≡ got none next → untilNone read n p ≡ got [] next
@@ -81,15 +81,6 @@ module _ {P A : Type 0} (read : Reads P (Option A)) (why : Refusal) where
   of-some : (p : P) {x : A} {next : P} → read p ≡ got (some x) next → someOf p ≡ got x next
   of-some p e = rw e
 
-  some-by : (o : Option A) (next : P) {x : A} {q : P} → given why o next ≡ got x q → got o next ≡ got (some x) q
-  some-by (some a) next e = cc
-  some-by none next e = cc
-
-  some-of : (p : P) {x : A} {next : P} → someOf p ≡ got x next → read p ≡ got (some x) next
-  some-of p e =
-      let t = parts-of (read p) (given why) e in
-      t .first ∙ some-by (t .value) (t .next) (t .rest)
-
   -- all of them, and then none
   pub until-many : (left : P → ℕ) → ((p : P) (x : Option A) (next : P) → read p ≡ got x next → left next < left p)
       → (n : ℕ) (p : P) {xs : List A} {q : P} → left p ≤ n → untilNone read n p ≡ got xs q
@@ -98,11 +89,3 @@ module _ {P A : Type 0} (read : Reads P (Option A)) (why : Refusal) where
   until-many left less =
       until-ind read left less (λ p xs q. (last : P) × (many someOf (length xs) p ≡ got xs last) × (read last ≡ got none q)) (λ p q e. (p, refl, e))
       (λ p next q x xs e ih. (ih .0, rw (of-some p e, ih .1), ih .2))
-
-  pub many-until : (m n : ℕ) (p : P) {xs : List A} {last q : P} → m ≤ n → many someOf m p ≡ got xs last → read last ≡ got none q → untilNone read n p ≡ got xs q
-  unfolding untilNone
-  many-until m n p {q = q} h e z =
-      many-ind someOf (λ m p xs last. (n : ℕ) → m ≤ n → read last ≡ got none q → untilNone read n p ≡ got xs q) (λ p n h z. until-end read n p z)
-      (λ m p next last x xs e ih n h z.
-      let down : n ≡ suc (n - 1) = omega arith in
-      ap (λ (k : ℕ). untilNone read k p) down ∙ rw (some-of p e, ih (n - 1) (omega arith) z)) m p e n h z

@@ -1,7 +1,7 @@
 -- What the check of the tables tells the passes after it: each section's records can be read, where they end, and that all lies among the words
 -- that are looked at.
 -- Assumes nothing.
-use Prim.Native.Nat.{ℕ, _+_, _≤_}
+use Prim.Native.Nat.{ℕ, _≤_}
 use mathlib.Core.Path.{_≡_, sym, ap, _∙_}
 use mathlib.Core.Bool.{true, false, cond}
 use mathlib.Core.List.{List, [], _∷_, _++_}

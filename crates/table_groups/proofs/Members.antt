@@ -1,18 +1,17 @@
 -- Where an import module ends by its functions, and a handler by its cases.
 -- Assumes nothing.
 use Prim.Native.Nat.{ℕ, _-_}
-use mathlib.Core.Path.{_≡_, refl, sym, ap, _∙_}
+use mathlib.Core.Path.{_≡_, sym, _∙_}
 use mathlib.Core.List.{List}
-use native.Mathlib.Omega.{arith}
 use lib.IntN.{ℤ}
 use Rattle.format.specs.declared.module.Handler.{Handler}
 use Rattle.format.specs.declared.module.ExceptionCase.{ExceptionCase}
 use Rattle.format.specs.declared.refusal.Refusal.{Refusal}
-use Rattle.format.specs.Reading.{Step, got, refused, andThen, give, many, ends, stops, endOf}
+use Rattle.format.specs.Reading.{got, refused, many, ends, stops, endOf}
 use Rattle.format.specs.WellFormed.{functionCountFrom, functionFrom, importFrom, handlerFrom, caseFrom, lastFrom, casesFrom, handledFrom}
 use Rattle.laws.proofs.Groups.{Cased}
 use Rattle.laws.proofs.Many.{stopped}
-use Rattle.laws.proofs.Scans.{scan-renamed}
+use Rattle.laws.proofs.Scans.{end-named, scan-renamed}
 use Rattle.rows.specs.declared.Kind.the-variants as K
 use Rattle.rows.specs.declared.Row.the-variants as R
 use Rattle.rows.specs.declared.groups.Group.the-variants as G
@@ -21,11 +20,6 @@ use Rattle.table_handlers.proofs.Handlers.{handlers, few-cases}
 use Rattle.table_rows.specs.Rows.{rowFrom}
 use Rattle.table_rows.proofs.Reach.{ended}
 use Rattle.table_groups.specs.Groups.{groupFrom}
-
-end-named : {P A B : Type 0} (name : A → B) (s : Step P A) → endOf (andThen s (λ x. give (name x))) ≡ endOf s
-unfolding endOf
-end-named name (got x q) = refl
-end-named name (refused r) = refl
 
 module _ (file : List ℕ) (words : List ℤ) (w : ℕ) where
   -- ---- an import module

@@ -2,8 +2,8 @@
 -- Assumes nothing.
 use Prim.Native.Nat.{ℕ, zero, suc, _+_, _≤_}
 use mathlib.Core.Path.{_≡_, refl, sym, ap, _∙_}
-use mathlib.Core.Bool.{Bool, true, _&&_}
-use mathlib.Core.List.{List, [], _∷_, _++_}
+use mathlib.Core.Bool.{true, _&&_}
+use mathlib.Core.List.{List, [], _∷_}
 use mathlib.Core.Option.{Option, none, some}
 use native.Mathlib.Nat.{add-assoc}
 use native.Mathlib.Omega.{arith}
@@ -21,7 +21,7 @@ use Rattle.format.specs.declared.instruction.Instruction.{Instruction}
 use Rattle.format.specs.Reading.{got}
 use Rattle.format.specs.Records.{modeOf, modeNumber, byMode, middleOf, middleNumber, byMiddle, addressingByte}
 use Rattle.format.specs.WellFormed.{withSome, onlyIf, isZero, numbered, word, operandFrom, middleFrom, instructionFrom}
-use Rattle.format.specs.Writing.{Part, operand, raw, registers, middleRegister, instructionLine}
+use Rattle.format.specs.Writing.{operand, registers, middleRegister, instructionLine}
 use Rattle.laws.proofs.Froms.{from-got, only-some}
 use Rattle.laws.proofs.Truth.{and-both}
 use Rattle.lines.proofs.Forms.{no-way}

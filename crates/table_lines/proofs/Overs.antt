@@ -1,13 +1,14 @@
 -- Bytes stored with some more behind them: that what follows stores these again, and the forms of operands at the front of four bytes.
 -- Assumes nothing.
-use Prim.Native.Nat.{ℕ, _+_, _-_, _*_, _/_, _%_, _^_, _≤_, _<_}
+use Prim.Native.Nat.{ℕ, _+_, _-_, _*_, _%_, _^_, _≤_, _<_}
 use mathlib.Core.Path.{_≡_, refl, sym, ap, _∙_, subst}
 use mathlib.Core.Bool.{Bool, true, false, cond, not}
 use mathlib.Core.List.{List, [], _∷_, _++_, append-nil, append-assoc}
 use mathlib.Core.Option.{none}
+use native.Mathlib.Nat.{mod-eq-of-lt}
 use native.Mathlib.Omega.{arith}
 use borrow.Author.Tests.{leb-true, leb-false, le-ltb, lt-ltb, ltb-true, ltb-false, eq-eqb, ne-eqb}
-use lib.Bits.{bitAnd, and-mask}
+use lib.Bits.{bitAnd, bitOr, and-mask, or-shifted}
 use lib.Dec.{leb, ltb, eqb}
 use lib.IntN.{ℤ, pos, negsuc}
 use lib.Signed.{mag}
@@ -26,7 +27,7 @@ use Rattle.lines.specs.Lines.{bytesOf, firstWide}
 use Rattle.lines.proofs.Forms.{both-none, wide-raw, wide-append}
 use Rattle.table_pieces.specs.Bytes.{byteOf}
 use Rattle.table_lines.specs.There.{registersThere, middleThere, addressingThere, partsThere, GoodOperand, GoodMiddle}
-use Rattle.table_lines.specs.Over.{maskOf, scaleOf, tagOf, Formed, Over}
+use Rattle.table_lines.specs.Over.{maskOf, shiftOf, tagOf, Formed, Over}
 use Rattle.table_lines.proofs.Sizes.{registers-narrow, middle-narrow}
 
 -- ---- bytes that are stored again
@@ -128,34 +129,36 @@ module _ {A : Type 0} (x y z : A) (n : ℕ) where
   pub pick-three : 8192 ≤ n → z ≡ cond (ltb n 64) x (cond (ltb n 8192) y z)
   pick-three l = rw (le-ltb n 64 (omega arith), le-ltb n 8192 l)
 
-pub record Summed (v : ℤ) (u mask scale tag : ℕ) : Type 0 where
-  pub product : bitAnd u mask * scale < 2 ^ 32
-  pub sum : tag + bitAnd u mask * scale < 2 ^ 32
-  pub formed : Formed v (tag + bitAnd u mask * scale)
+pub record Joined (v : ℤ) (u mask shift tag : ℕ) : Type 0 where
+  pub near : shift < 32
+  pub formed : Formed v (bitOr tag (bitAnd u mask * 2 ^ shift % 2 ^ 32))
+
+tag-above : (t k b s : ℕ) → b * 2 ^ s < 2 ^ k → b * 2 ^ s < 2 ^ 32 → bitOr (t * 2 ^ k) (b * 2 ^ s % 2 ^ 32) ≡ t * 2 ^ k + b * 2 ^ s
+tag-above t k b s l h = rw (mod-eq-of-lt h) (or-shifted t k (b * 2 ^ s) l)
 
 module _ (v : ℤ) (u : ℕ) (is : u ≡ bitsOf (2 ^ 31) v) (narrow : mag v < 2 ^ 29) where
-  summed-one : mag v < 64 → Summed v u 127 16777216 0
-  summed-one h =
-      let e : bitAnd u 127 ≡ u % 128 = and-mask u 7 in
-      record { product = omega (arith, e); sum = omega (arith, e); formed = subst (λ (b : ℕ). Formed v (0 + b * 16777216)) (sym e) (formed-one v u is h) }
+  joined-one : mag v < 64 → Joined v u 127 24 0
+  joined-one h =
+      let e : bitOr 0 (bitAnd u 127 * 2 ^ 24 % 2 ^ 32) ≡ 0 + u % 128 * 16777216 = rw (and-mask u 7) (tag-above 0 31 (u % 128) 24 (omega arith) (omega arith)) in
+      record { near = omega arith; formed = subst (Formed v) (sym e) (formed-one v u is h) }
 
-  summed-two : 64 ≤ mag v → mag v < 8192 → Summed v u 16383 65536 2147483648
-  summed-two l h =
-      let e : bitAnd u 16383 ≡ u % 16384 = and-mask u 14 in
-      record { product = omega (arith, e); sum = omega (arith, e); formed = subst (λ (b : ℕ). Formed v (2147483648 + b * 65536)) (sym e) (formed-two v u is l h) }
+  joined-two : 64 ≤ mag v → mag v < 8192 → Joined v u 16383 16 2147483648
+  joined-two l h =
+      let e : bitOr 2147483648 (bitAnd u 16383 * 2 ^ 16 % 2 ^ 32) ≡ 2147483648 + u % 16384 * 65536 = rw (and-mask u 14) (tag-above 2 30 (u % 16384) 16 (omega arith) (omega arith)) in
+      record { near = omega arith; formed = subst (Formed v) (sym e) (formed-two v u is l h) }
 
-  summed-four : 8192 ≤ mag v → Summed v u 1073741823 1 3221225472
-  summed-four l =
-      let e : bitAnd u 1073741823 ≡ u % 1073741824 = and-mask u 30 in
-      record { product = omega (arith, e); sum = omega (arith, e); formed = subst (λ (b : ℕ). Formed v (3221225472 + b * 1)) (sym e) (formed-four v u is l narrow) }
+  joined-four : 8192 ≤ mag v → Joined v u 1073741823 0 3221225472
+  joined-four l =
+      let e : bitOr 3221225472 (bitAnd u 1073741823 * 2 ^ 0 % 2 ^ 32) ≡ 3221225472 + u % 1073741824 * 1 = rw (and-mask u 30) (tag-above 3 30 (u % 1073741824) 0 (omega arith) (omega arith)) in
+      record { near = omega arith; formed = subst (Formed v) (sym e) (formed-four v u is l narrow) }
 
-  summed-by : (a b : Bool) → ltb (mag v) 64 ≡ a → ltb (mag v) 8192 ≡ b → Summed v u (cond a 127 (cond b 16383 1073741823)) (cond a 16777216 (cond b 65536 1)) (cond a 0 (cond b 2147483648 3221225472))
-  summed-by true b e f = summed-one (ltb-true (mag v) 64 e)
-  summed-by false true e f = summed-two (ltb-false (mag v) 64 e) (ltb-true (mag v) 8192 f)
-  summed-by false false e f = summed-four (ltb-false (mag v) 8192 f)
+  joined-by : (a b : Bool) → ltb (mag v) 64 ≡ a → ltb (mag v) 8192 ≡ b → Joined v u (cond a 127 (cond b 16383 1073741823)) (cond a 24 (cond b 16 0)) (cond a 0 (cond b 2147483648 3221225472))
+  joined-by true b e f = joined-one (ltb-true (mag v) 64 e)
+  joined-by false true e f = joined-two (ltb-false (mag v) 64 e) (ltb-true (mag v) 8192 f)
+  joined-by false false e f = joined-four (ltb-false (mag v) 8192 f)
 
-  pub summed : {mask scale tag : ℕ} → mask ≡ maskOf (mag v) → scale ≡ scaleOf (mag v) → tag ≡ tagOf (mag v) → Summed v u mask scale tag
-  summed e f g = rw (e, f, g) (summed-by (ltb (mag v) 64) (ltb (mag v) 8192) refl refl)
+  pub joined : {mask shift tag : ℕ} → mask ≡ maskOf (mag v) → shift ≡ shiftOf (mag v) → tag ≡ tagOf (mag v) → Joined v u mask shift tag
+  joined e f g = rw (e, f, g) (joined-by (ltb (mag v) 64) (ltb (mag v) 8192) refl refl)
 
 -- ---- which slots are used
 

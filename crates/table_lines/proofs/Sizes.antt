@@ -13,14 +13,14 @@ use lib.Signed.{mag}
 use lib.ListN.{length, length-append}
 use Rattle.format.specs.Operands.{in30bits, encodeOperand}
 use Rattle.format.specs.WellFormed.{isNone, word}
-use Rattle.format.specs.Writing.{Part, operand, raw, partBytes}
+use Rattle.format.specs.Writing.{Part, operand, partBytes}
 use Rattle.laws.proofs.Flatten.{flatten-append}
 use Rattle.laws.proofs.OperandBack.{at-most-four}
 use Rattle.laws.proofs.OperandCases.{encode-one, encode-two, encode-four}
 use Rattle.lines.specs.Lines.{bytesOf, orElse, wideOne, firstWide, partsLen}
 use Rattle.lines.proofs.Forms.{wide-none, wide-only, wide-both, wide-raw, wide-append, parts-length}
 use Rattle.table_pieces.specs.Bytes.{byteOf}
-use Rattle.table_lines.specs.There.{usedRegisters, usedMiddle, registersThere, middleThere, addressingThere, partsThere, narrowLen, GoodOperand, GoodMiddle, GoodWords}
+use Rattle.table_lines.specs.There.{usedRegisters, usedMiddle, registersThere, middleThere, addressingThere, partsThere, narrowLen, GoodOperand, GoodMiddle}
 
 -- ---- a word that says a byte below 255
 

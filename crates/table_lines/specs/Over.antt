@@ -9,12 +9,12 @@ use lib.ListN.{length}
 use Rattle.format.specs.Operands.{fourBytes, encodeOperand}
 use Rattle.format.specs.Put.{put}
 
--- of a number n for v or -1 - v: what the bits of v's form are masked by, what they are worth in four bytes, and what is added
+-- of a number n for v or -1 - v: what the bits of v's form are masked by, how far they stand from the end of four bytes, and what stands above them
 abbrev pub maskOf : ℕ → ℕ
 maskOf n = cond (ltb n 64) 127 (cond (ltb n 8192) 16383 1073741823)
 
-abbrev pub scaleOf : ℕ → ℕ
-scaleOf n = cond (ltb n 64) 16777216 (cond (ltb n 8192) 65536 1)
+abbrev pub shiftOf : ℕ → ℕ
+shiftOf n = cond (ltb n 64) 24 (cond (ltb n 8192) 16 0)
 
 abbrev pub tagOf : ℕ → ℕ
 tagOf n = cond (ltb n 64) 0 (cond (ltb n 8192) 2147483648 3221225472)

@@ -13,7 +13,7 @@ pub fn addressing_there(words: &[i32], w: usize) -> u8
     let middle = byte_there(words, w + 4);
     let source = byte_there(words, w + 1);
     let destination = byte_there(words, w + 6);
-    middle * 64 + source * 8 + destination
+    (middle << 6) | (source << 3) | destination
 }
 
 fn put_registers(words: &[i32], w: usize, out: &mut [u8], at: usize) -> usize

@@ -18,9 +18,10 @@ ghost use Rattle.format.specs.Operands.{fourBytes, encodeOperand};
 ghost use Rattle.format.specs.Put.{put};
 ghost use Rattle.lines.specs.Lines.{bytesOf, firstWide};
 ghost use Rattle.table_lines.specs.There.{registersThere, middleThere, partsThere, GoodOperand, GoodMiddle, GoodWords};
-ghost use Rattle.table_lines.specs.Over.{maskOf, scaleOf, tagOf, Formed, Over};
+ghost use Rattle.table_lines.specs.Over.{maskOf, shiftOf, tagOf, Formed, Over};
 
-// What the bits of a form are masked by, how far they stand from the end of four bytes, and what is added: constants, so that no branch is left.
+// What the bits of a form are masked by, how far they stand from the end of four bytes, and what stands above them: constants, so that no branch
+// is left.
 fn mask_of(n: u32) -> u32
     ensures { λ r. ⌜ r ≡ maskOf n ⌝ }
 {
@@ -31,13 +32,13 @@ fn mask_of(n: u32) -> u32
     }
 }
 
-fn scale_of(n: u32) -> u32
-    ensures { λ r. ⌜ r ≡ scaleOf n ⌝ }
+fn shift_of(n: u32) -> u32
+    ensures { λ r. ⌜ r ≡ shiftOf n ⌝ }
 {
     match n {
-        0..=0x3F => 0x100_0000,
-        0x40..=0x1FFF => 0x1_0000,
-        0x2000..=0xFFFF_FFFF => 1,
+        0..=0x3F => 24,
+        0x40..=0x1FFF => 16,
+        0x2000..=0xFFFF_FFFF => 0,
     }
 }
 
@@ -59,9 +60,9 @@ fn form_of(v: i32) -> u32
     let u = bits_of(0x8000_0000, v);
     let n = magnitude(v);
     let mask = mask_of(n);
-    let scale = scale_of(n);
+    let shift = shift_of(n);
     let tag = tag_of(n);
-    tag + (u & mask) * scale
+    tag | ((u & mask) << shift)
 }
 
 fn put_bits(out: &mut [u8], at: usize, u: u32)

@@ -10,8 +10,8 @@ use Rattle.format.specs.Words.{flatten}
 use Rattle.format.specs.Writing.{Part, Line, instructionLine, partBytes}
 use Rattle.laws.proofs.Flatten.{flatten-append}
 use Rattle.laws.proofs.Many.{leading-done, leading-turn}
-use Rattle.laws.proofs.Scans.{reached-done, reached-turn, many-renamed, leading-renamed, flatten-renamed}
-use Rattle.laws.proofs.Whole.{whole-part, whole-first, whole-next}
+use Rattle.laws.proofs.Scans.{reached-done, reached-turn}
+use Rattle.laws.proofs.Whole.{whole-first, whole-next}
 use Rattle.rows.specs.declared.Kind.{Kind}
 use Rattle.rows.specs.declared.Kind.the-variants as K
 use Rattle.rows.specs.declared.Row.the-variants as R
@@ -28,11 +28,12 @@ use Rattle.table_lines.proofs.Overs.{stored-over, over-same}
 use Rattle.line_bytes.specs.Laid.{Ready, Laid}
 use Rattle.line_bytes.proofs.Chain.{Writing, writing, ready, ready-last, step, finish, finish-last}
 use Rattle.table_rows.specs.Rows.{rowWidth, rowFrom}
+use Rattle.table_rows.proofs.Reach.{renamed-whole}
 use Rattle.measure.specs.Measured.{rowLines}
 use Rattle.measure.specs.Rows.{partsIn}
 use Rattle.measure.proofs.Coded.{Coded, coded}
 use Rattle.measure.proofs.Rowed.{Rowed, rowed}
-use Rattle.write.specs.Wrote.{partsOf, instructionLines}
+use Rattle.write.specs.Wrote.{partsOf}
 
 pub parts-append : (xs ys : List Line) → partsOf (xs ++ ys) ≡ partsOf xs ++ partsOf ys
 parts-append xs ys = flatten-append (λ (l : Line). l .parts) xs ys
@@ -147,63 +148,62 @@ module _ (file : List ℕ) (words : List ℤ) (kind : Kind) {n w at : ℕ} {l₀
       → Laying (rowLines file) (rowFrom file words kind) n w at l₀ (left - 1) (here + rowWidth kind) place′ l′
   row-turn {place′} {l′} d = turn (rowLines file) (rowFrom file words kind) y more (row-here .read) (subst (λ (ps : List Part). Laid ps place l place′ l′) row-parts d)
 
--- ---- instructions, as rows and by themselves
-
-module _ (file : List ℕ) (words : List ℤ) (n w : ℕ) where
-  pub code-lines : run (rowLines file) (rowFrom file words K.Code) n w ≡ run instructionLines (instructionFrom words) n w
-  code-lines =
-      ap (λ xs. partsOf (flatten (rowLines file) xs)) (leading-renamed R.Instruction (instructionFrom words) n w)
-      ∙ ap partsOf (flatten-renamed R.Instruction (rowLines file) (leading (instructionFrom words) n w))
-
-  pub code-whole : Whole (many (rowFrom file words K.Code) n w) → Whole (many (instructionFrom words) n w)
-  code-whole h = whole-part (many (instructionFrom words) n w) (λ xs. give (map R.Instruction xs)) (rw (many-renamed R.Instruction (instructionFrom words) n w) at h)
-
 -- ---- two more instructions are four bytes at least
 
-code-long : (words : List ℤ) (n w : ℕ) → 0 < n → (k : Coded words w) → length (bytesOf (run instructionLines (instructionFrom words) n w)) ≡ length (bytesOf (instructionLine (k .instruction) .parts)) + length (bytesOf (run instructionLines (instructionFrom words) (n - 1) (w + 9)))
-code-long words n w more k =
-    let qs = instructionLine (k .instruction) .parts in
-    let rest = run instructionLines (instructionFrom words) (n - 1) (w + 9) in
-    ap (λ ps. length (bytesOf ps)) (run-turn instructionLines (instructionFrom words) n w more (k .read) ∙ ap (λ (ps : List Part). ps ++ rest) (single (instructionLine (k .instruction))))
-    ∙ ap length (flatten-append partBytes qs rest) ∙ length-append (bytesOf qs) (bytesOf rest)
+module _ (file : List ℕ) (words : List ℤ) where
+  abbrev codeRun : ℕ → ℕ → List Part
+  codeRun n w = run (rowLines file) (rowFrom file words K.Code) n w
 
-two-bytes : (i : Instruction) → 2 ≤ length (bytesOf (instructionLine i .parts))
-two-bytes i = omega arith
+  code-whole : (w : ℕ) → Whole (rowFrom file words K.Code w) → Coded words w
+  code-whole w h = coded words w (renamed-whole R.Instruction (instructionFrom words) w h)
 
-pub two-more : (words : List ℤ) (n w : ℕ) → 2 ≤ n → Whole (many (instructionFrom words) n w) → 4 ≤ length (bytesOf (run instructionLines (instructionFrom words) n w))
-two-more words n w h all =
-    let read = instructionFrom words in
-    let first = coded words w (whole-first read n w all (omega arith)) in
-    let rest = whole-next read n w all (omega arith) (first .read) in
-    let second = coded words (w + 9) (whole-first read (n - 1) (w + 9) rest (omega arith)) in
-    omega (arith, code-long words n w (omega arith) first, two-bytes (first .instruction), code-long words (n - 1) (w + 9) (omega arith) second, two-bytes (second .instruction))
+  code-read : (w : ℕ) (k : Coded words w) → rowFrom file words K.Code w ≡ got (R.Instruction (k .instruction)) (w + 9)
+  code-read w k = rw (k .read)
 
--- ---- an instruction that is written by its words, exactly or by slots
+  code-long : (n w : ℕ) → 0 < n → (k : Coded words w) → length (bytesOf (codeRun n w)) ≡ length (bytesOf (instructionLine (k .instruction) .parts)) + length (bytesOf (codeRun (n - 1) (w + 9)))
+  code-long n w more k =
+      let qs = instructionLine (k .instruction) .parts in
+      let rest = codeRun (n - 1) (w + 9) in
+      ap (λ ps. length (bytesOf ps)) (run-turn (rowLines file) (rowFrom file words K.Code) n w more (code-read w k) ∙ ap (λ (ps : List Part). ps ++ rest) (single (instructionLine (k .instruction))))
+      ∙ ap length (flatten-append partBytes qs rest) ∙ length-append (bytesOf qs) (bytesOf rest)
 
-module _ (words : List ℤ) {n w at : ℕ} {l₀ : List ℕ} {left here place : ℕ} {l : List ℕ} (y : Laying instructionLines (instructionFrom words) n w at l₀ left here place l) where
-  module _ (more : 0 < left) where
-    pub here-coded : Coded words here
-    here-coded = coded words here (whole-first (instructionFrom words) left here (y .all) more)
+  two-bytes : (i : Instruction) → 2 ≤ length (bytesOf (instructionLine i .parts))
+  two-bytes i = omega arith
 
-    parts-here : partsOf (instructionLines (here-coded .instruction)) ≡ partsThere words here
-    parts-here = single (instructionLine (here-coded .instruction)) ∙ sym (here-coded .there .parts)
+  two-more : (n w : ℕ) → 2 ≤ n → Whole (many (rowFrom file words K.Code) n w) → 4 ≤ length (bytesOf (codeRun n w))
+  two-more n w h all =
+      let read = rowFrom file words K.Code in
+      let first = code-whole w (whole-first read n w all (omega arith)) in
+      let rest = whole-next read n w all (omega arith) (code-read w first) in
+      let second = code-whole (w + 9) (whole-first read (n - 1) (w + 9) rest (omega arith)) in
+      omega (arith, code-long n w (omega arith) first, two-bytes (first .instruction), code-long (n - 1) (w + 9) (omega arith) second, two-bytes (second .instruction))
 
-    pub here-ready : Ready (partsThere words here) place l
-    here-ready = rw parts-here at (next-ready instructionLines (instructionFrom words) y more (here-coded .read))
+-- ---- an instruction that is written by slots
 
-    pub here-turn : {place′ : ℕ} {l′ : List ℕ} → Laid (partsThere words here) place l place′ l′ → Laying instructionLines (instructionFrom words) n w at l₀ (left - 1) (here + 9) place′ l′
-    here-turn d = turn instructionLines (instructionFrom words) y more (here-coded .read) (rw (← parts-here) at d)
+module _ (file : List ℕ) (words : List ℤ) {n w at : ℕ} {l₀ : List ℕ} {left here place : ℕ} {l : List ℕ}
+    (y : Laying (rowLines file) (rowFrom file words K.Code) n w at l₀ left here place l) (more : 2 < left) where
+  some-more : 0 < left
+  some-more = omega arith
 
-  module _ (more : 2 < left) where
-    some-more : 0 < left
-    some-more = omega arith
+  pub here-coded : Coded words here
+  here-coded = code-whole file words here (row-whole file words K.Code y some-more)
 
-    rest-long : 4 ≤ length (bytesOf (run instructionLines (instructionFrom words) (left - 1) (here + 9)))
-    rest-long = two-more words (left - 1) (here + 9) (omega arith) (whole-next (instructionFrom words) left here (y .all) some-more (here-coded some-more .read))
+  here-read : rowFrom file words K.Code here ≡ got (R.Instruction (here-coded .instruction)) (here + 9)
+  here-read = code-read file words here here-coded
 
-    pub slots-room : place + length (bytesOf (partsThere words here)) + 4 ≤ length l
-    slots-room = omega (arith, over-room instructionLines (instructionFrom words) y some-more (here-coded some-more .read) rest-long, ap (λ ps. length (bytesOf ps)) (parts-here some-more))
+  parts-here : partsOf (rowLines file (R.Instruction (here-coded .instruction))) ≡ partsThere words here
+  parts-here = single (instructionLine (here-coded .instruction)) ∙ sym (here-coded .there .parts)
 
-    pub slots-turn : {place′ : ℕ} {l′ : List ℕ} → Over (bytesOf (partsThere words here)) place l place′ l′ → Laying instructionLines (instructionFrom words) n w at l₀ (left - 1) (here + 9) place′ l′
-    slots-turn {place′} {l′} d =
-        turn-over instructionLines (instructionFrom words) y some-more (here-coded some-more .read) rest-long (subst (λ (ps : List Part). Over (bytesOf ps) place l place′ l′) (sym (parts-here some-more)) d)
+  pub here-ready : Ready (partsThere words here) place l
+  here-ready = rw parts-here at (next-ready (rowLines file) (rowFrom file words K.Code) y some-more here-read)
+
+  rest-long : 4 ≤ length (bytesOf (codeRun file words (left - 1) (here + 9)))
+  rest-long = two-more file words (left - 1) (here + 9) (omega arith) (whole-next (rowFrom file words K.Code) left here (y .all) some-more here-read)
+
+  pub slots-room : place + length (bytesOf (partsThere words here)) + 4 ≤ length l
+  slots-room = omega (arith, over-room (rowLines file) (rowFrom file words K.Code) y some-more here-read rest-long, ap (λ ps. length (bytesOf ps)) parts-here)
+
+  pub slots-turn : {place′ : ℕ} {l′ : List ℕ} → Over (bytesOf (partsThere words here)) place l place′ l′
+      → Laying (rowLines file) (rowFrom file words K.Code) n w at l₀ (left - 1) (here + 9) place′ l′
+  slots-turn {place′} {l′} d =
+      turn-over (rowLines file) (rowFrom file words K.Code) y some-more here-read rest-long (subst (λ (ps : List Part). Over (bytesOf ps) place l place′ l′) (sym parts-here) d)

@@ -1,13 +1,12 @@
 -- What writing records leaves: their bytes at their place, the place past them, and the word where the next record begins.
 use Prim.Native.Nat.{ℕ}
-use mathlib.Core.List.{List, [], _∷_}
+use mathlib.Core.List.{List}
 use mathlib.Core.Path.{_≡_}
 use lib.IntN.{ℤ}
-use Rattle.format.specs.declared.instruction.Instruction.{Instruction}
 use Rattle.format.specs.declared.module.Module.{Module}
 use Rattle.format.specs.Reading.{got}
 use Rattle.format.specs.Words.{flatten}
-use Rattle.format.specs.Writing.{Part, Line, instructionLine}
+use Rattle.format.specs.Writing.{Part, Line}
 use Rattle.line_bytes.specs.Laid.{Laid}
 use Rattle.tables.specs.declared.Places.{Places}
 use Rattle.measure.specs.Measured.{measured}
@@ -17,9 +16,6 @@ use Rattle.write.specs.declared.runs.Wrote.{Wrote}
 -- lines, as the parts they are made of
 abbrev pub partsOf : List Line → List Part
 partsOf ls = flatten (λ l. l .parts) ls
-
-abbrev pub instructionLines : Instruction → List Line
-instructionLines i = instructionLine i ∷ []
 
 pub record Done (ps : List Part) (next at : ℕ) (out : List ℕ) (r : Wrote) (now : List ℕ) : Type 0 where
   pub stopped : r .next ≡ next

@@ -17,13 +17,12 @@ ghost use Prim.Native.Nat.{_≤_};
 ghost use lib.ListN.{length};
 ghost use Rattle.format.specs.Reading.{many, leading, reached, Whole};
 ghost use Rattle.format.specs.Records.{sizeLimit};
-ghost use Rattle.format.specs.WellFormed.{instructionFrom};
 ghost use Rattle.format.specs.Words.{flatten};
 ghost use Rattle.line_bytes.specs.Laid.{Ready, Laid};
 ghost use Rattle.table_rows.specs.Rows.{rowFrom};
 ghost use Rattle.measure.specs.Measured.{rowLines};
 ghost use Rattle.measure.specs.Rows.{partsIn};
-ghost use Rattle.write.specs.Wrote.{partsOf, instructionLines, Done};
+ghost use Rattle.write.specs.Wrote.{partsOf, Done};
 
 // The word where the next record begins, and the place past what was written.
 pub struct Wrote {
@@ -70,25 +69,10 @@ fn write_each(
     Wrote { next: here, place }
 }
 
-fn write_last_code(words: &[i32], n: usize, w: usize, out: &mut [u8], at: usize) -> Wrote
-    requires { ⌜ Whole (many (instructionFrom (now words)) n w) × Ready (partsOf (flatten instructionLines (leading (instructionFrom (now words)) n w))) at (now out) ⌝ }
-    ensures { λ r. ⌜ Done (partsOf (flatten instructionLines (leading (instructionFrom (now (words .entry))) n w))) (reached (instructionFrom (now (words .entry))) n w) at (now (out .entry)) r (now (out .exit)) ⌝ }
-{
-    let mut here = w;
-    let mut left = n;
-    let mut place = at;
-    while 0 < left {
-        place = put_there(words, here, out, place);
-        here += 9;
-        left -= 1;
-    }
-    Wrote { next: here, place }
-}
-
-// Instructions are most of a module: they are written by their words, and all but the last two of them by slots of four bytes.
-fn write_code(words: &[i32], n: usize, w: usize, out: &mut [u8], at: usize) -> Wrote
-    requires { ⌜ Whole (many (instructionFrom (now words)) n w) × Ready (partsOf (flatten instructionLines (leading (instructionFrom (now words)) n w))) at (now out) ⌝ }
-    ensures { λ r. ⌜ Done (partsOf (flatten instructionLines (leading (instructionFrom (now (words .entry))) n w))) (reached (instructionFrom (now (words .entry))) n w) at (now (out .entry)) r (now (out .exit)) ⌝ }
+// Instructions are most of a module: all but the last two of them are written by slots of four bytes.
+fn write_code(file: &[u8], words: &[i32], n: usize, w: usize, out: &mut [u8], at: usize) -> Wrote
+    requires { ⌜ (length (now file) ≤ sizeLimit) × Whole (many (rowFrom (now file) (now words) Kind.Code) n w) × Ready (partsOf (flatten (rowLines (now file)) (leading (rowFrom (now file) (now words) Kind.Code) n w))) at (now out) ⌝ }
+    ensures { λ r. ⌜ Done (partsOf (flatten (rowLines (now (file .entry))) (leading (rowFrom (now (file .entry)) (now (words .entry)) Kind.Code) n w))) (reached (rowFrom (now (file .entry)) (now (words .entry)) Kind.Code) n w) at (now (out .entry)) r (now (out .exit)) ⌝ }
 {
     let mut here = w;
     let mut left = n;
@@ -98,7 +82,7 @@ fn write_code(words: &[i32], n: usize, w: usize, out: &mut [u8], at: usize) -> W
         here += 9;
         left -= 1;
     }
-    write_last_code(words, left, here, out, place)
+    write_each(file, words, Kind::Code, left, here, out, place)
 }
 
 pub fn write_rows(
@@ -114,7 +98,7 @@ pub fn write_rows(
     ensures { λ r. ⌜ Done (partsOf (flatten (rowLines (now (file .entry))) (leading (rowFrom (now (file .entry)) (now (words .entry)) kind) n w))) (reached (rowFrom (now (file .entry)) (now (words .entry)) kind) n w) at (now (out .entry)) r (now (out .exit)) ⌝ }
 {
     match kind {
-        Kind::Code => write_code(words, n, w, out, at),
+        Kind::Code => write_code(file, words, n, w, out, at),
         _ => write_each(file, words, kind, n, w, out, at),
     }
 }

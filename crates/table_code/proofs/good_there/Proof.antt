@@ -1,10 +1,8 @@
-use Prim.Native.Nat.{_+_}
-use mathlib.Core.Path.{_≡_, sym, ap, _∙_}
+use mathlib.Core.Path.{sym, ap, _∙_}
 use native.Mathlib.Nat.{add-assoc}
 use denote.Ref.{now}
 use lib.Dec.{leb}
 use Rattle.format.specs.WellFormed.{word}
-use Rattle.table_pieces.specs.Bytes.{byteOf}
 use Rattle.table_pieces.proofs.Facts.{byte-kept}
 use Rattle.table_code.proofs.Good.{there-good}
 use borrow.Author.Needs.{needs}

@@ -1,26 +1,35 @@
 use Prim.Native.Nat.{_/_, _%_}
-use mathlib.Core.Path.{refl}
+use mathlib.Core.Path.{_≡_, refl, ap, _∙_}
 use native.Mathlib.Omega.{arith}
+use Rattle.format.specs.declared.instruction.Addressing.{Addressing}
 use Rattle.format.specs.Records.{modeOf, middleOf}
+use Rattle.code.specs.Plain.{operandsFor}
 use Rattle.code.proofs.PlainLaws.{operands-most, middles-most, operands-split}
 use borrow.Author.Needs.{needs}
 use Rattle.code.proofs.plain.operands_in.Statement.{statement}
 use Rattle.code.proofs.plain.operands_in.Tie as tie
 
+-- the source's operands, and the destination's
+sources : (c : tie.After-operands-for) → c .operands-for .result ≡ operandsFor (modeOf (c .before .before .before .args .b / 8 % 8))
+sources c = c .operands-for .ensures ∙ ap (λ (a : Addressing). operandsFor (modeOf (a .source))) (c .before .before .addressing-of .ensures)
+
+destinations : (c : tie.After-operands-for2) → c .operands-for2 .result ≡ operandsFor (modeOf (c .before .before .before .before .args .b % 8))
+destinations c = c .operands-for2 .ensures ∙ ap (λ (a : Addressing). operandsFor (modeOf (a .destination))) (c .before .before .before .addressing-of .ensures)
+
 add-result : tie.Need-add-result
 add-result c =
-    let b = c .before .before .args .b in
-    omega (arith, c .before .middles-in .ensures, c .operands-for .ensures, middles-most (middleOf (b / 64)), operands-most (modeOf (b / 8 % 8)))
+    let b = c .before .before .before .args .b in
+    omega (arith, c .before .middles-in .ensures, sources c, middles-most (middleOf (b / 64)), operands-most (modeOf (b / 8 % 8)))
 
 add-result-2 : tie.Need-add-result-2
 add-result-2 c =
     let s = c .before in
-    let b = s .before .before .args .b in
+    let b = s .before .before .before .args .b in
     omega (
       arith,
       s .before .middles-in .ensures,
-      s .operands-for .ensures,
-      c .operands-for2 .ensures,
+      sources s,
+      destinations c,
       middles-most (middleOf (b / 64)),
       operands-most (modeOf (b / 8 % 8)),
       operands-most (modeOf (b % 8)),
@@ -29,12 +38,13 @@ add-result-2 c =
 returns : tie.Need-returns
 returns c =
     let s = c .before in
-    omega (arith, s .before .middles-in .ensures, s .operands-for .ensures, c .operands-for2 .ensures, operands-split (s .before .before .args .b) refl)
+    omega (arith, s .before .middles-in .ensures, sources s, destinations c, operands-split (s .before .before .before .args .b) refl)
 
 pub operands-in-spec : {M : Type 1} → statement M
 operands-in-spec =
     tie.close
     (tie.spec
+    (λ c κs. search needs)
     (λ c κs. search needs)
     (λ c κs. search needs)
     add-result

@@ -25,7 +25,7 @@ returns c =
     let first : f .first-of .result ≡ firstOf n file (a .c) = f .first-of .ensures ∙ ap (λ (k : ℕ). firstOf k file (a .c)) (o .operands-for .ensures) in
     let second : s .second-of .result ≡ secondOf n file (a .c) = s .second-of .ensures ∙ ap (λ (k : ℕ). secondOf k file (a .c)) (o .operands-for .ensures) in (
       t .past-two .ensures ∙ ap (λ (k : ℕ). pastOperands file k (a .c)) (o .operands-for .ensures),
-      three-numbered (a .w) (now (a .words)) (a .mode) (a .mode) (f .first-of .result) (s .second-of .result) (p .put-three .ensures) refl (omega (arith, o .before .before .pre .0)) (omega (arith, f .first-of .ok)) (omega (arith, s .second-of .ok))
+      three-numbered (a .w) (now (a .words)) (a .mode) (a .mode) (f .first-of .result) (s .second-of .result) (p .put-three .ensures) refl (omega arith) (omega (arith, f .first-of .ok)) (omega (arith, s .second-of .ok))
           ∙ ap (λ (x : ℤ). put (a .w) (pos (a .mode) ∷ x ∷ s .second-of .result ∷ []) (now (a .words))) first
           ∙ ap (λ (x : ℤ). put (a .w) (pos (a .mode) ∷ firstOf n file (a .c) ∷ x ∷ []) (now (a .words))) second,
     )

@@ -1,4 +1,4 @@
-use Prim.Native.Nat.{_+_, _/_, _%_}
+use Prim.Native.Nat.{_+_, _/_}
 use mathlib.Core.Path.{_≡_, ap, _∙_}
 use mathlib.Core.Option.{some}
 use native.Mathlib.Omega.{arith}
@@ -10,9 +10,11 @@ use mir.Val.{toZ}
 use mir.Facts.{toZ-pos}
 use Rattle.code.specs.Plain.{middlesFor}
 use Rattle.code.proofs.PlainLaws.{Plain, plain-is, sourceFrom, destinationFrom, plainInstruction, source-room, destination-room, mode-at-most, middle-at-most}
+use Rattle.format.specs.declared.instruction.Addressing.{Addressing}
 use Rattle.format.specs.declared.types.Cursor.{Cursor}
 use Rattle.format.specs.Reading.{past}
 use Rattle.format.specs.Operands.{byte}
+use Rattle.format.specs.Records.{modeOf}
 use Rattle.laws.proofs.Put.{put-one}
 use Rattle.fill.proofs.PlainWords.{addressed-words, addressed-next, middle-words, middle-next, nine-words, plain-stored}
 use borrow.Author.Needs.{needs}
@@ -28,53 +30,62 @@ add-b c = omega (arith, plain-here c .room)
 shared-slice-read-b : tie.Need-shared-slice-read-b
 shared-slice-read-b c = omega (arith, plain-here (c .before) .room)
 
+-- what the addressing byte says
+source-mode : (c : tie.After-addressing-of) → let p = plain-here (c .before .before) in modeOf (c .addressing-of .result .source) ≡ some (p .source)
+source-mode c = ap (λ (a : Addressing). modeOf (a .source)) (c .addressing-of .ensures) ∙ plain-here (c .before .before) .isSource
+
+destination-mode : (c : tie.After-addressing-of) →
+    let p = plain-here (c .before .before) in
+    modeOf (c .addressing-of .result .destination) ≡ some (p .destination)
+destination-mode c = ap (λ (a : Addressing). modeOf (a .destination)) (c .addressing-of .ensures) ∙ plain-here (c .before .before) .isDestination
+
 past-requires : tie.Need-past-requires
-past-requires c κs = omega (arith, plain-here (c .before) .room)
+past-requires c κs = omega (arith, plain-here (c .before .before) .room)
 
 -- at most one middle operand
-middles-few : (c : tie.After-middles-in) → c .middles-in .result ≡ middlesFor (some (plain-here (c .before .before .before) .middle))
-middles-few c = c .middles-in .ensures ∙ ap middlesFor (plain-here (c .before .before .before) .isMiddle)
+middles-few : (c : tie.After-middles-in) → c .middles-in .result ≡ middlesFor (some (plain-here (c .before .before .before .before) .middle))
+middles-few c = c .middles-in .ensures ∙ ap middlesFor (plain-here (c .before .before .before .before) .isMiddle)
 
 past-two-requires : tie.Need-past-two-requires
 past-two-requires c κs =
-    let p = plain-here (c .before .before .before) in (
+    let p = plain-here (c .before .before .before .before) in (
       omega (arith, middles-few c, middle-at-most (p .middle)),
       omega (arith, p .room, ap (λ (q : Cursor). q .at) (c .before .past .ensures)),
     )
 
 -- where the source's operands stand, and the destination's
 source-is : (c : tie.After-past-two) →
-    let k = c .before .before .before .before in
+    let k = c .before .before .before .before .before in
     c .past-two .result ≡ sourceFrom (now (k .before .args .file)) (k .before .args .c) (plain-here k)
 source-is c =
     let m = c .before in
-    let k = m .before .before .before in
+    let k = m .before .before .before .before in
     let file = now (k .before .args .file) in
     c .past-two .ensures ∙ middle-next file (m .before .past .ensures) (byte file (k .before .args .c .at + 1) / 64) (plain-here k .isMiddle) (m .middles-in .ensures)
 
 destination-is : (c : tie.After-put-addressed) →
-    let k = c .before .before .before .before .before .before .before in
+    let k = c .before .before .before .before .before .before .before .before in
     c .put-addressed .result ≡ destinationFrom (now (k .before .args .file)) (k .before .args .c) (plain-here k)
 destination-is c =
     let s = c .before .before .before in
-    let k = s .before .before .before .before in
-    let file = now (k .before .args .file) in
-    c .put-addressed .ensures .0 ∙ addressed-next file (source-is s) (byte file (k .before .args .c .at + 1) / 8 % 8) (plain-here k .isSource)
+    let m = s .before .before .before in
+    let file = now (m .before .before .before .args .file) in
+    c .put-addressed .ensures .0 ∙ addressed-next file (source-is s) (m .addressing-of .result .source) (source-mode m)
 
 shared-slice-read-words : tie.Need-shared-slice-read-words
-shared-slice-read-words c = omega (arith, plain-here (c .before .before .before .before .before) .room)
+shared-slice-read-words c = omega (arith, plain-here (c .before .before .before .before .before .before) .room)
 
 cast-words : tie.Need-cast-words
-cast-words c = omega (arith, c .shared-slice-known3 .given (c .before .before .before .before .before .before .args .c .at))
+cast-words c = omega (arith, c .shared-slice-known3 .given (c .before .before .before .before .before .before .before .args .c .at))
 
 put-addressed-requires : tie.Need-put-addressed-requires
 put-addressed-requires c κs =
     let s = c .before .before in
-    let k = s .before .before .before .before in
+    let m = s .before .before .before in
+    let k = m .before .before in
     let a = k .before .args in
     let p = plain-here k in (
-      omega arith,
-      rw (p .isSource) (mode-at-most (p .source)),
+      rw (source-mode m) (mode-at-most (p .source)),
       omega (arith, source-room (now (a .file)) (a .c) p, ap (λ (q : Cursor). q .at) (source-is s)),
       simp length-set (omega (arith, k .before .pre .1)),
     )
@@ -83,18 +94,18 @@ put-middle-requires : tie.Need-put-middle-requires
 put-middle-requires c κs =
     let d = c .before .before in
     let m = d .before .before .before .before in
-    let k = m .before .before .before in
+    let k = m .before .before .before .before in
     (omega (arith, plain-here k .room, ap (λ (q : Cursor). q .at) (m .before .past .ensures)), omega (arith, simp length-set at (d .put-addressed .kept .1 .1 .1 .0), k .before .pre .1))
 
 put-addressed-requires-2 : tie.Need-put-addressed-requires-2
 put-addressed-requires-2 c κs =
     let m = c .before .before in
     let d = m .before .before .before in
-    let k = d .before .before .before .before .before .before .before in
+    let o = d .before .before .before .before .before .before in
+    let k = o .before .before in
     let a = k .before .args in
     let p = plain-here k in (
-      omega arith,
-      rw (p .isDestination) (mode-at-most (p .destination)),
+      rw (destination-mode o) (mode-at-most (p .destination)),
       omega (arith, destination-room (now (a .file)) (a .c) p, ap (λ (q : Cursor). q .at) (destination-is d)),
       omega (arith, m .put-middle .kept .1 .1 .1 .0, simp length-set at (d .put-addressed .kept .1 .1 .1 .0), k .before .pre .1),
     )
@@ -109,19 +120,20 @@ returns c =
     let m = c .before .before .before .before in
     let d = m .before .before .before in
     let s = d .before .before .before in
-    let k = s .before .before .before .before in
+    let o = s .before .before .before in
+    let k = o .before .before in
     let b = k .before in
     let a = b .args in
     let file = now (a .file) in
     let l = now (a .words) in
     let p = plain-here k in
-    let addressing = byte file (a .c .at + 1) in
+    let modes = o .addressing-of .result in
     let small : toZ w32 (byte file (a .c .at)) ≡ pos (byte file (a .c .at)) = toZ-pos w32 (omega (arith, k .shared-slice-known .given (a .c .at))) in
-    let source = addressed-words file (source-is s) (addressing / 8 % 8) (p .isSource) in
-    let middle = middle-words file (s .before .before .past .ensures) (addressing / 64) (p .isMiddle) in
-    let destination = addressed-words file (destination-is d) (addressing % 8) (p .isDestination) in
+    let source = addressed-words file (source-is s) (modes .source) (source-mode o) in
+    let middle = middle-words file (s .before .before .past .ensures) (byte file (a .c .at + 1) / 64) (p .isMiddle) in
+    let destination = addressed-words file (destination-is d) (modes .destination) (destination-mode o) in
     plain-stored file (a .c) p
-    (c .before .put-addressed2 .ensures .0 ∙ addressed-next file (destination-is d) (addressing % 8) (p .isDestination))
+    (c .before .put-addressed2 .ensures .0 ∙ addressed-next file (destination-is d) (modes .destination) (destination-mode o))
     (nine-words l (a .w) (plainInstruction file (a .c) p) (b .pre .1) (put-one l (a .w) _ (omega (arith, b .pre .1)) small)
     (d .put-addressed .ensures .1) source (m .put-middle .ensures) middle (c .before .put-addressed2 .ensures .1) destination)
 
@@ -131,6 +143,7 @@ put-plain-spec =
     (tie.spec
     add-b
     shared-slice-read-b
+    (λ c κs. search needs)
     past-requires
     (λ c κs. search needs)
     past-two-requires

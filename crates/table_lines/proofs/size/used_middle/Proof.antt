@@ -1,6 +1,5 @@
 use native.Mathlib.Omega.{arith}
 use Rattle.table_lines.proofs.Sizes.{middle-unused, middle-used}
-use borrow.Author.Needs.{needs}
 use Rattle.table_lines.proofs.size.used_middle.Statement.{statement}
 use Rattle.table_lines.proofs.size.used_middle.Tie as tie
 

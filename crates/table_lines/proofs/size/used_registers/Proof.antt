@@ -1,6 +1,5 @@
 use native.Mathlib.Omega.{arith}
 use Rattle.table_lines.proofs.Sizes.{used-one, used-none, used-two}
-use borrow.Author.Needs.{needs}
 use Rattle.table_lines.proofs.size.used_registers.Statement.{statement}
 use Rattle.table_lines.proofs.size.used_registers.Tie as tie
 

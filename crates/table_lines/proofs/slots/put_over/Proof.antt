@@ -10,7 +10,7 @@ use Rattle.format.specs.WellFormed.{word}
 use Rattle.laws.proofs.Put.{length-put, put-next}
 use Rattle.lines.specs.Lines.{bytesOf}
 use Rattle.table_pieces.specs.Bytes.{byteOf}
-use Rattle.table_lines.specs.There.{registersThere, middleThere, addressingThere, partsThere}
+use Rattle.table_lines.specs.There.{registersThere, middleThere, addressingThere}
 use Rattle.table_lines.specs.Over.{Over}
 use Rattle.table_lines.proofs.Overs.{over-over, alone-over, over-same, parts-bytes, parts-each}
 use Rattle.table_lines.proofs.Sizes.{parts-long}

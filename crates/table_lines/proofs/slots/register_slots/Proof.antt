@@ -1,5 +1,5 @@
 use Prim.Native.Nat.{ℕ, _+_, _≤_}
-use mathlib.Core.Path.{_≡_, ap}
+use mathlib.Core.Path.{ap}
 use mathlib.Core.Bool.{cond, not}
 use mathlib.Core.List.{List, []}
 use native.Mathlib.Omega.{arith}
@@ -9,8 +9,6 @@ use lib.ListN.{length, length-append}
 use Rattle.bits.proofs.Signs.{kept}
 use Rattle.format.specs.Operands.{encodeOperand}
 use Rattle.format.specs.WellFormed.{word}
-use Rattle.lines.specs.Lines.{bytesOf}
-use Rattle.table_lines.specs.There.{registersThere}
 use Rattle.table_lines.specs.Over.{Over}
 use Rattle.table_lines.proofs.Overs.{over-over, register-bytes, registers-range}
 use borrow.Author.Needs.{needs}

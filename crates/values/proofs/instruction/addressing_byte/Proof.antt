@@ -1,13 +1,11 @@
-use Prim.Native.Nat.{ℕ, _+_, _*_, _%_, _<_}
-use mathlib.Core.Path.{_≡_, ap, _∙_}
+use Prim.Native.Nat.{_<_}
 use native.Mathlib.Omega.{arith}
-use lib.Bits.{bitOr}
 use borrow.Author.Needs.{needs}
 use Rattle.laws.proofs.Types.{AddressMode, MiddleMode}
 use Rattle.format.specs.declared.instruction.AddressMode.the-variants as A
 use Rattle.format.specs.declared.instruction.MiddleMode.the-variants as M
 use Rattle.format.specs.Records.{modeNumber, middleNumber, addressingByte}
-use Rattle.bits.proofs.Shifts.{shl-or-in}
+use Rattle.bits.proofs.Shifts.{side-by-side}
 use Rattle.values.proofs.instruction.addressing_byte.Statement.{statement}
 use Rattle.values.proofs.instruction.addressing_byte.Tie as tie
 
@@ -24,15 +22,6 @@ middle-bits M.None = omega arith
 middle-bits M.SmallImmediate = omega arith
 middle-bits M.SmallOffsetFp = omega arith
 middle-bits M.SmallOffsetMp = omega arith
-
--- three numbers side by side
-side-by-side : (m s d : ℕ) → m < 4 → s < 8 → d < 8 → bitOr (bitOr (m * 64 % 256) (s * 8 % 256)) d ≡ m * 64 + s * 8 + d
-side-by-side m s d hm hs hd =
-    let small : s * 8 % 256 ≡ s * 8 = omega arith in
-    let upper : bitOr (m * 64 % 256) (s * 8 % 256) ≡ m * 64 + s * 8 = rw small (shl-or-in 8 6 m (s * 8) (omega arith) (omega arith)) in
-    let shifted : m * 64 + s * 8 ≡ (m * 8 + s) * 8 % 256 = omega arith in
-    let joined : bitOr ((m * 8 + s) * 8 % 256) d ≡ (m * 8 + s) * 8 + d = shl-or-in 8 3 (m * 8 + s) d (omega arith) hd in
-    ap (λ (u : ℕ). bitOr u d) (upper ∙ shifted) ∙ joined ∙ omega arith
 
 returns : tie.Need-returns
 unfolding addressingByte
