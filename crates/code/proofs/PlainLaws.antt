@@ -31,7 +31,7 @@ use Rattle.format.proofs.Ranges.{none-past}
 use Rattle.laws.proofs.OperandCases.{byte-there, operand-low, operand-minus, operand-two, operand-four}
 use Rattle.laws.proofs.Truth.{and-both}
 use Rattle.reader.proofs.Facts.{less-128}
-use Rattle.code.specs.Plain.{width, halfOf, shiftOf, raised, valueAt, pastOperands, operandsFor, middlesFor, firstOf, secondOf, operandsIn, isPlain}
+use Rattle.code.specs.Plain.{width, halfOf, shiftOf, raised, valueAt, pastOperands, operandsFor, middlesFor, firstOf, secondOf, operandsIn, plainOperands, isPlain}
 
 -- ---- an operand
 
@@ -164,21 +164,6 @@ pub middles-most : (o : Option MiddleMode) → middlesFor o ≤ 9
 middles-most (some mode) = omega (arith, middle-at-most mode)
 middles-most none = omega arith
 
-pub operands-one : (mode : ℕ) → mode ≤ 2 → operandsFor (modeOf mode) ≡ 1
-operands-one zero h = refl
-operands-one (suc zero) h = refl
-operands-one (suc (suc zero)) h = refl
-operands-one (suc (suc (suc n))) h = absurd (omega arith)
-
-pub operands-two : (mode : ℕ) → 4 ≤ mode → mode ≤ 5 → operandsFor (modeOf mode) ≡ 2
-operands-two zero l h = absurd (omega arith)
-operands-two (suc zero) l h = absurd (omega arith)
-operands-two (suc (suc zero)) l h = absurd (omega arith)
-operands-two (suc (suc (suc zero))) l h = absurd (omega arith)
-operands-two (suc (suc (suc (suc zero)))) l h = refl
-operands-two (suc (suc (suc (suc (suc zero))))) l h = refl
-operands-two (suc (suc (suc (suc (suc (suc n)))))) l h = absurd (omega arith)
-
 pub operands-none : (mode : ℕ) → 6 ≤ mode → operandsFor (modeOf mode) ≡ 9
 operands-none mode h = rw (← none-past modes mode h)
 
@@ -250,13 +235,19 @@ module _ (file : List ℕ) (c : Cursor) where
   plain-by (some m) none d i j k room opcode count = absurd (omega (arith, rw j at (operands-split addressing refl)))
   plain-by (some m) (some s) none i j k room opcode count = absurd (omega (arith, rw k at (operands-split addressing refl)))
 
+  few-by : (t : Bool) → (leb (c .at + 22) (length file) && leb (byte file (c .at)) 175) ≡ t → cond t (operandsIn addressing) 9 ≤ 5 → Plain
+  few-by true e h =
+      let a = and-both (leb (c .at + 22) (length file)) _ e in
+      plain-by (middleOf (addressing / 64)) (modeOf (addressing / 8 % 8)) (modeOf (addressing % 8)) refl refl refl (leb-true (c .at + 22) (length file) (a .0)) (a .1) h
+  few-by false e h = absurd (omega arith)
+
+  pub plain-few : plainOperands file c ≤ 5 → Plain
+  unfolding plainOperands
+  plain-few h = few-by (leb (c .at + 22) (length file) && leb (byte file (c .at)) 175) refl h
+
   pub plain-is : isPlain file c ≡ true → Plain
   unfolding isPlain
-  plain-is e =
-      let a = and-both (leb (c .at + 22) (length file)) _ e in
-      let b = and-both (leb (byte file (c .at)) 175) _ (a .1) in
-      plain-by (middleOf (addressing / 64)) (modeOf (addressing / 8 % 8)) (modeOf (addressing % 8)) refl refl refl
-      (leb-true (c .at + 22) (length file) (a .0)) (b .0) (leb-true (operandsIn addressing) 5 (b .1))
+  plain-is e = plain-few (leb-true (plainOperands file c) 5 e)
 
   module _ (p : Plain) where
     -- past the addressing byte, past the middle operand, past the source's
@@ -321,23 +312,23 @@ module _ (file : List ℕ) (c : Cursor) where
     unfolding endOf
     plain-ends = rw (plain-reads, plain-end)
 
--- ---- the test, by what the code asks in turn
+-- ---- how many operands, by what the code asks in turn
 
 and-false : (a : Bool) → (a && false) ≡ false
 and-false true = refl
 and-false false = refl
 
 module _ (file : List ℕ) (c : Cursor) where
-  pub plain-short : length file < c .at + 22 → isPlain file c ≡ false
-  unfolding isPlain
+  pub plain-short : length file < c .at + 22 → plainOperands file c ≡ 9
+  unfolding plainOperands
   plain-short h = rw (lt-leb (c .at + 22) (length file) h)
 
-  pub plain-opcode : leb (byte file (c .at)) 175 ≡ false → isPlain file c ≡ false
-  unfolding isPlain
-  plain-opcode e = rw e (and-false (leb (c .at + 22) (length file)))
+  pub plain-opcode : leb (byte file (c .at)) 175 ≡ false → plainOperands file c ≡ 9
+  unfolding plainOperands
+  plain-opcode e = rw (e, and-false (leb (c .at + 22) (length file)))
 
-  pub plain-count : c .at + 22 ≤ length file → leb (byte file (c .at)) 175 ≡ true → isPlain file c ≡ leb (operandsIn (byte file (c .at + 1))) 5
-  unfolding isPlain
+  pub plain-count : c .at + 22 ≤ length file → leb (byte file (c .at)) 175 ≡ true → plainOperands file c ≡ operandsIn (byte file (c .at + 1))
+  unfolding plainOperands
   plain-count h e = rw (le-leb (c .at + 22) (length file) h, e)
 
 -- ---- an operand's value, of the four bytes from its first on

@@ -66,6 +66,10 @@ secondOf (suc k) file c = firstOf k file (past c (width (byte file (c .at))))
 unfoldable pub operandsIn : ℕ → ℕ
 operandsIn b = middlesFor (middleOf (b / 64)) + operandsFor (modeOf (b / 8 % 8)) + operandsFor (modeOf (b % 8))
 
--- two bytes, and five operands of four
+-- how many operands an instruction has, where two bytes and five operands of four are left and its opcode is one; for any other, more than it can
+-- have
+unfoldable pub plainOperands : List ℕ → Cursor → ℕ
+plainOperands file c = cond (leb (c .at + 22) (length file) && leb (byte file (c .at)) 175) (operandsIn (byte file (c .at + 1))) noMode
+
 unfoldable pub isPlain : List ℕ → Cursor → Bool
-isPlain file c = leb (c .at + 22) (length file) && (leb (byte file (c .at)) 175 && leb (operandsIn (byte file (c .at + 1))) 5)
+isPlain file c = leb (plainOperands file c) 5

@@ -21,14 +21,18 @@ pub fn width(b: u8) -> usize
     }
 }
 
-// The operands that a mode has; for what is no mode, more than an instruction can have.
+// The operands that a mode has; for what is no mode, more than an instruction can have. An arm for each mode makes it a table: a range would be
+// a jump, and often guessed wrong.
 pub fn operands_for(mode: u8) -> u32
     ensures { λ r. ⌜ r ≡ Spec.operandsFor (modeOf mode) ⌝ }
 {
     match mode {
-        0..=2 => 1,
+        0 => 1,
+        1 => 1,
+        2 => 1,
         3 => 0,
-        4..=5 => 2,
+        4 => 2,
+        5 => 2,
         6..=255 => 9,
     }
 }
@@ -43,27 +47,34 @@ pub fn middles_in(b: u8) -> u32
     }
 }
 
-pub fn operands_in(b: u8) -> u32
+fn operands_in(b: u8) -> u32
     ensures { λ r. ⌜ r ≡ Spec.operandsIn b ⌝ }
 {
     let modes = addressing_of(b);
     middles_in(b) + operands_for(modes.source) + operands_for(modes.destination)
 }
 
-pub fn is_plain(file: &[u8], c: Cursor) -> bool
-    ensures { λ r. ⌜ r ≡ Spec.isPlain (now (file .entry)) c ⌝ }
+// How many operands a plain instruction has, five at most; of any other, more.
+pub fn plain_operands(file: &[u8], c: Cursor) -> u32
+    ensures { λ r. ⌜ r ≡ Spec.plainOperands (now (file .entry)) c ⌝ }
 {
     let at = c.at;
     if file.len() < 22 {
-        return false;
+        return 9;
     }
     if file.len() - 22 < at {
-        return false;
+        return 9;
     }
     if !is_opcode(file[at]) {
-        return false;
+        return 9;
     }
-    operands_in(file[at + 1]) <= 5
+    operands_in(file[at + 1])
+}
+
+pub fn is_plain(file: &[u8], c: Cursor) -> bool
+    ensures { λ r. ⌜ r ≡ Spec.isPlain (now (file .entry)) c ⌝ }
+{
+    plain_operands(file, c) <= 5
 }
 
 // What the highest bit of an operand beside its form is worth.

@@ -1,7 +1,6 @@
 // Where an instruction ends, for the first pass: no record is built. Almost always the lengths tell it; the rest is read.
 use crate::InstructionRead;
-use crate::plain::is_plain;
-use crate::plain::operands_in;
+use crate::plain::plain_operands;
 use crate::plain::width;
 use crate::read_instruction;
 use format::refusal::Refusal;
@@ -36,9 +35,8 @@ fn past_operands(file: &[u8], n: u32, c: Cursor) -> Cursor
 pub fn skip_instruction(file: &[u8], c: Cursor) -> InstructionEnd
     ensures { λ r. ⌜ instructionEnd r ≡ endOf (instructionAt (now (file .entry)) c) ⌝ }
 {
-    if is_plain(file, c) {
-        let at = c.at;
-        let n = operands_in(file[at + 1]);
+    let n = plain_operands(file, c);
+    if n <= 5 {
         return InstructionEnd::Done {
             next: past_operands(file, n, c.past(2)),
         };

@@ -1,6 +1,6 @@
 use mathlib.Core.Path.{sym}
-use native.Mathlib.Omega.{arith}
-use Rattle.code.proofs.PlainLaws.{operands-one, operands-two, operands-none}
+use Rattle.format.proofs.Ranges.{from-zero, above}
+use Rattle.code.proofs.PlainLaws.{operands-none}
 use Rattle.code.proofs.plain.operands_for.Statement.{statement}
 use Rattle.code.proofs.plain.operands_for.Tie as tie
 
@@ -8,13 +8,24 @@ returns : tie.Need-returns
 returns c = rw (c .match .keys1)
 
 returns-2 : tie.Need-returns-2
-returns-2 c = sym (operands-one (c .before .before .args .mode) (omega arith))
+returns-2 c = rw (c .match .keys2)
 
 returns-3 : tie.Need-returns-3
-returns-3 c = sym (operands-two (c .before .before .before .args .mode) (omega arith) (omega arith))
+returns-3 c = rw (c .match .keys3)
 
 returns-4 : tie.Need-returns-4
-returns-4 c = sym (operands-none (c .before .before .before .args .mode) (omega arith))
+returns-4 c = rw (c .match .keys4)
+
+returns-5 : tie.Need-returns-5
+returns-5 c = rw (c .match .keys5)
+
+returns-6 : tie.Need-returns-6
+returns-6 c = rw (c .match .keys6)
+
+returns-7 : tie.Need-returns-7
+returns-7 c =
+    let r = c .match .rest in
+    sym (operands-none (c .before .args .mode) (above (above (above (above (above (from-zero (r .0 .0 .0 .0 .0 .1)) (r .0 .0 .0 .0 .1)) (r .0 .0 .0 .1)) (r .0 .0 .1)) (r .0 .1)) (r .1)))
 
 pub operands-for-spec : {M : Type 1} → statement M
-operands-for-spec = tie.close (tie.spec returns returns-2 returns-3 returns-4)
+operands-for-spec = tie.close (tie.spec returns returns-2 returns-3 returns-4 returns-5 returns-6 returns-7)

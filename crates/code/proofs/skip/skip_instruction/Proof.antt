@@ -8,37 +8,35 @@ use Rattle.format.specs.Operands.{byte}
 use Rattle.laws.proofs.Told.{told}
 use Rattle.code.specs.Plain.{pastOperands, operandsIn}
 use Rattle.code.specs.View.{instructionRead}
-use Rattle.code.proofs.PlainLaws.{Plain, plain-is, plain-ends}
+use Rattle.code.proofs.PlainLaws.{Plain, plain-few, plain-count, plain-ends}
 use borrow.Author.Needs.{needs}
 use Rattle.code.proofs.skip.skip_instruction.Statement.{statement}
 use Rattle.code.proofs.skip.skip_instruction.Tie as tie
 
 plain-here : (c : tie.Then1) → let a = c .before .before .before .args in Plain (now (a .file)) (a .c)
-plain-here c = plain-is _ _ (sym (c .before .is-plain .ensures) ∙ c .if1 .taken)
+plain-here c = plain-few _ _ (omega (arith, c .before .plain-operands .ensures))
 
-add-operands-in : tie.Need-add-operands-in
-add-operands-in c = omega (arith, plain-here c .room)
-
-shared-slice-read-operands-in : tie.Need-shared-slice-read-operands-in
-shared-slice-read-operands-in c = omega (arith, plain-here (c .before) .room)
+-- as many as its addressing byte says
+count-is : (c : tie.Then1) → let a = c .before .before .before .args in c .before .plain-operands .result ≡ operandsIn (byte (now (a .file)) (a .c .at + 1))
+count-is c = let p = plain-here c in c .before .plain-operands .ensures ∙ plain-count _ _ (p .room) (p .opcode)
 
 past-requires : tie.Need-past-requires
-past-requires c κs = let t = c .before .before in omega (arith, plain-here t .room)
+past-requires c κs = omega (arith, plain-here c .room)
 
 past-operands-requires : tie.Need-past-operands-requires
 past-operands-requires c κs =
-    let p = plain-here (c .before .before .before) in
-    omega (arith, p .room, p .count, c .before .operands-in .ensures, ap (λ (q : Cursor). q .at) (c .past .ensures))
+    let p = plain-here (c .before) in
+    omega (arith, p .room, p .count, count-is (c .before), ap (λ (q : Cursor). q .at) (c .past .ensures))
 
 returns : tie.Need-returns
 returns c =
     let d = c .before in
-    let t = d .before .before .before in
+    let t = d .before in
     let a = t .before .before .before .args in
     let file = now (a .file) in
     let n = operandsIn (byte file (a .c .at + 1)) in
     let e : c .past-operands .result ≡ pastOperands file n (past (a .c) 2)
-    = c .past-operands .ensures ∙ ap (λ (k : ℕ). pastOperands file k (d .past .result)) (d .before .operands-in .ensures) ∙ ap (pastOperands file n) (d .past .ensures) in
+    = c .past-operands .ensures ∙ ap (λ (k : ℕ). pastOperands file k (d .past .result)) (count-is t) ∙ ap (pastOperands file n) (d .past .ensures) in
     ap ends e ∙ sym (plain-ends file (a .c) (plain-here t))
 
 returns-2 : tie.Need-returns-2
@@ -53,9 +51,6 @@ pub skip-instruction-spec : {M : Type 1} → statement M
 skip-instruction-spec =
     tie.close
     (tie.spec
-    (λ c κs. search needs)
-    add-operands-in
-    shared-slice-read-operands-in
     (λ c κs. search needs)
     past-requires
     past-operands-requires
