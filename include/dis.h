@@ -12,8 +12,9 @@
  * state, 3: 0 0 0 idle. 1 pc frame: at a pc; the frame is -1 none, -2 the default, else a type's number.
  *     2 reason 0: stopped; 1 no entry, 2 no code, 3 end of code, 4 uncaught, 5 no catch-all. 3 0 0 broken.
  *     Handed in, any other code or reason is taken as broken, and numbers that a state has no use for are not looked at.
- * answer, 4: 0 and three numbers that each function tells. Or, refused: number, section, place and detail, as document 01
- *     numbers them; every other slice is then as it was lent.
+ *     Handed back, it is one of these exactly.
+ * answer, 4: 0 and three numbers that each function tells. Or, refused: number, section, place and detail
+ *     (docs/REFUSALS.md); every other slice is then as it was lent.
  *
  * Each function returns 0; or -1 exactly when module, state or answer has fewer numbers than that, and then it has written
  * nothing at all.

@@ -13,7 +13,7 @@ use Rattle.reader.specs.View.{byteRead, numberRead, spanRead}
 use Rattle.reader.specs.declared.ByteRead.the-variants as B
 use Rattle.reader.specs.declared.NumberRead.the-variants as N
 use Rattle.reader.specs.declared.SpanRead.the-variants as S
-use Rattle.table_code.specs.View.{instructionStep}
+use Rattle.table_code.specs.View.{instructionStep, goodEnd}
 use Rattle.table_code.specs.declared.InstructionFrom.the-variants as InstructionFrom-is
 use Rattle.table_types.specs.View.{typeStep}
 use Rattle.table_types.specs.declared.TypeFrom.the-variants as TypeFrom-is
@@ -52,6 +52,7 @@ use Rattle.values.proofs.module.kind_number.Reads as kind-number
 use Rattle.values.proofs.module.shape_of.Reads as shape-of
 use Rattle.format.proofs.refusal.numbers_of.Reads as numbers-of
 use Rattle.table_code.proofs.instruction_from.Reads as instruction-from
+use Rattle.table_code.proofs.good_instruction.Reads as good-instruction
 use Rattle.table_types.proofs.type_from.Reads as type-from
 use Rattle.table_data.proofs.item_from.Reads as item-from
 use Rattle.table_names.proofs.export_from.Reads as export-from
@@ -75,7 +76,7 @@ use Rattle.format.proofs.types.Cursor.front.Reads as cursor-front
 use Rattle.lent.proofs.first_operand.Reads as first-operand
 use Rattle.lent.proofs.left_at.Reads as left-at
 use Rattle.answers.proofs.Once.{Once, one, one-of, one-viewed}
-use Rattle.answers.proofs.Views.{byRead, byte-kept, number-kept, spanGot, span-kept, byOption, mode-kept, middle-kept, kind-kept, byStep, instruction-kept, type-kept, item-kept, export-kept, function-kept, function-count-kept, handler-kept, case-kept}
+use Rattle.answers.proofs.Views.{byRead, byte-kept, number-kept, spanGot, span-kept, byOption, mode-kept, middle-kept, kind-kept, byStep, byEnd, good-kept, instruction-kept, type-kept, item-kept, export-kept, function-kept, function-count-kept, handler-kept, case-kept}
 
 -- ---- the whole
 
@@ -182,6 +183,9 @@ numbers-of-once κs a r s v w p q = one p q
 
 pub instruction-from-once : Once instruction-from.Learnt (λ κs r v. r)
 instruction-from-once κs a r s v w p q = one-viewed (instructionStep _) (byStep InstructionFrom-is.Got InstructionFrom-is.Bad) (instruction-kept _) r s p q
+
+pub good-instruction-once : Once good-instruction.Learnt (λ κs r v. r)
+good-instruction-once κs a r s v w p q = one-viewed (goodEnd _) byEnd (good-kept _) r s p q
 
 pub type-from-once : Once type-from.Learnt (λ κs r v. r)
 type-from-once κs a r s v w p q = one-viewed (typeStep _) (byStep TypeFrom-is.Got TypeFrom-is.Bad) (type-kept _) r s p q

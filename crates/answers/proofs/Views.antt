@@ -2,13 +2,14 @@
 -- Assumes nothing.
 use Prim.Native.Nat.{ℕ}
 use mathlib.Core.Path.{_≡_, refl}
+use mathlib.Core.Bool.{Bool, true, false}
 use mathlib.Core.Option.{Option, none, some}
 use lib.Signed.{mag}
 use Rattle.laws.proofs.Types.{Cursor, Span, MaybeAddressMode, MaybeMiddleMode, MaybeDataKind}
 use Rattle.format.specs.declared.instruction.MaybeAddressMode.the-variants as MA
 use Rattle.format.specs.declared.instruction.MaybeMiddleMode.the-variants as MM
 use Rattle.format.specs.declared.module.MaybeDataKind.the-variants as MK
-use Rattle.format.specs.Reading.{Read, found, short, Step, got, refused}
+use Rattle.format.specs.Reading.{Read, found, short, Step, got, refused, End, ends, stops}
 use Rattle.format.specs.Records.{maybeMode, maybeMiddle, maybeKind}
 use Rattle.reader.specs.View.{byteRead, numberRead, spanRead}
 use Rattle.reader.specs.declared.ByteRead.{ByteRead}
@@ -17,7 +18,7 @@ use Rattle.reader.specs.declared.NumberRead.{NumberRead}
 use Rattle.reader.specs.declared.NumberRead.the-variants as N
 use Rattle.reader.specs.declared.SpanRead.{SpanRead}
 use Rattle.reader.specs.declared.SpanRead.the-variants as S
-use Rattle.table_code.specs.View.{instructionStep}
+use Rattle.table_code.specs.View.{instructionStep, goodEnd}
 use Rattle.table_code.specs.declared.InstructionFrom.{InstructionFrom}
 use Rattle.table_code.specs.declared.InstructionFrom.the-variants as InstructionFrom-is
 use Rattle.table_types.specs.View.{typeStep}
@@ -84,7 +85,15 @@ abbrev pub byStep : {A R : Type 0} → (A → R) → R → Step ℕ A → R
 byStep there bad (got v next) = there v
 byStep there bad (refused why) = bad
 
+abbrev pub byEnd : End ℕ → Bool
+byEnd (ends next) = true
+byEnd (stops why) = false
+
 module _ (w : ℕ) where
+  pub good-kept : (r : Bool) → byEnd (goodEnd w r) ≡ r
+  good-kept true = refl
+  good-kept false = refl
+
   pub instruction-kept : (r : InstructionFrom) → byStep InstructionFrom-is.Got InstructionFrom-is.Bad (instructionStep w r) ≡ r
   instruction-kept (InstructionFrom-is.Got v) = refl
   instruction-kept InstructionFrom-is.Bad = refl

@@ -1,4 +1,4 @@
-// Numbers of more than one byte, and two's complement, by shifts and masks.
+// Numbers of more than one byte, by shifts and masks, and two's complement.
 ghost use mathlib.Core.Path.{_≡_};
 ghost use Prim.Native.Nat.{_+_, _*_, _%_, _^_, _<_, _≤_};
 ghost use lib.Signed.{mag};

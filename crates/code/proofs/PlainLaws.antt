@@ -25,7 +25,7 @@ use Rattle.format.specs.declared.instruction.MiddleMode.{MiddleMode}
 use Rattle.format.specs.declared.instruction.MiddleMode.the-variants as M
 use Rattle.format.specs.Reading.{got, found, past, endOf, ends}
 use Rattle.format.specs.Operands.{byte, operandAt}
-use Rattle.format.specs.Records.{modes, modeOf, modeNumber, middleOf, middleNumber}
+use Rattle.format.specs.Records.{modes, middleModes, modeOf, modeNumber, middleOf, middleNumber}
 use Rattle.format.specs.Sections.{oneRegister, twoRegisters, addressedAt, middleRegister, middleAt, operandsAt, instructionAt}
 use Rattle.format.proofs.Ranges.{none-past}
 use Rattle.laws.proofs.OperandCases.{byte-there, operand-low, operand-minus, operand-two, operand-four}
@@ -167,8 +167,8 @@ middles-most none = omega arith
 pub operands-none : (mode : ℕ) → 6 ≤ mode → operandsFor (modeOf mode) ≡ 9
 operands-none mode h = rw (← none-past modes mode h)
 
-pub middles-none : (n : ℕ) → n ≡ 0 → middlesFor (middleOf n) ≡ 0
-middles-none n e = rw e
+pub middles-none : (n : ℕ) → 4 ≤ n → middlesFor (middleOf n) ≡ 9
+middles-none n h = rw (← none-past middleModes n h)
 
 pub middles-one : (n : ℕ) → 1 ≤ n → n ≤ 3 → middlesFor (middleOf n) ≡ 1
 middles-one zero l h = absurd (omega arith)

@@ -1,11 +1,11 @@
-// An instruction so far from the file's end that each operand it can have is whole, with an opcode and modes that are some: its numbers are
-// read with no refusal in sight, so that the answers are plain values.
+// An instruction so far from the file's end that each operand it can have is whole, with a valid opcode and valid modes: its numbers are read with
+// no refusal in sight, so that the answers are plain values.
 use bits::be32;
 use format::types::Cursor;
 use values::instruction::addressing_of;
 use values::opcode::is_opcode;
 ghost use mathlib.Core.Path.{_≡_};
-ghost use Prim.Native.Nat.{_+_, _/_, _≤_};
+ghost use Prim.Native.Nat.{_+_, _≤_};
 ghost use lib.ListN.{length};
 ghost use Rattle.format.specs.Records.{modeOf, middleOf};
 ghost use Rattle.code.specs.Plain as Spec;
@@ -37,13 +37,14 @@ pub fn operands_for(mode: u8) -> u32
     }
 }
 
-// The middle operands that an addressing byte says: one or none.
-pub fn middles_in(b: u8) -> u32
-    ensures { λ r. ⌜ r ≡ Spec.middlesFor (middleOf (b / 64)) ⌝ }
+// The middle operands that a middle mode has: one or none; for what is no mode, more than an instruction can have.
+pub fn middles_for(mode: u8) -> u32
+    ensures { λ r. ⌜ r ≡ Spec.middlesFor (middleOf mode) ⌝ }
 {
-    match b {
-        0..=63 => 0,
-        64..=255 => 1,
+    match mode {
+        0 => 0,
+        1..=3 => 1,
+        4..=255 => 9,
     }
 }
 
@@ -51,7 +52,7 @@ fn operands_in(b: u8) -> u32
     ensures { λ r. ⌜ r ≡ Spec.operandsIn b ⌝ }
 {
     let modes = addressing_of(b);
-    middles_in(b) + operands_for(modes.source) + operands_for(modes.destination)
+    middles_for(modes.middle) + operands_for(modes.source) + operands_for(modes.destination)
 }
 
 // How many operands a plain instruction has, five at most; of any other, more.
@@ -142,7 +143,7 @@ pub fn second_of(file: &[u8], n: u32, c: Cursor) -> i32
     value_at(file, c.past(width(file[at])))
 }
 
-// The place past n operands, of which there are two at most.
+// The place past n operands, of which there are two at most: of a source or a destination, with no loop.
 pub fn past_two(file: &[u8], n: u32, c: Cursor) -> Cursor
     requires { ⌜ (n ≤ 2) × (c .at + 8 ≤ length (now file)) ⌝ }
     ensures { λ r. ⌜ r ≡ Spec.pastOperands (now (file .entry)) n c ⌝ }

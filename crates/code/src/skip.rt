@@ -3,20 +3,15 @@ use crate::InstructionRead;
 use crate::plain::plain_operands;
 use crate::plain::width;
 use crate::read_instruction;
-use format::refusal::Refusal;
 use format::types::Cursor;
+use reader::EndRead;
 ghost use mathlib.Core.Path.{_≡_};
 ghost use Prim.Native.Nat.{_+_, _*_, _≤_};
 ghost use lib.ListN.{length};
 ghost use Rattle.format.specs.Reading.{endOf};
 ghost use Rattle.format.specs.Sections.{instructionAt};
+ghost use Rattle.reader.specs.View.{endRead};
 ghost use Rattle.code.specs.Plain as Spec;
-ghost use Rattle.code.specs.View.{instructionEnd};
-
-pub enum InstructionEnd {
-    Done { next: Cursor },
-    Refused(Refusal),
-}
 
 fn past_operands(file: &[u8], n: u32, c: Cursor) -> Cursor
     requires { ⌜ c .at + n * 4 ≤ length (now file) ⌝ }
@@ -32,20 +27,20 @@ fn past_operands(file: &[u8], n: u32, c: Cursor) -> Cursor
     here
 }
 
-pub fn skip_instruction(file: &[u8], c: Cursor) -> InstructionEnd
-    ensures { λ r. ⌜ instructionEnd r ≡ endOf (instructionAt (now (file .entry)) c) ⌝ }
+pub fn skip_instruction(file: &[u8], c: Cursor) -> EndRead
+    ensures { λ r. ⌜ endRead r ≡ endOf (instructionAt (now (file .entry)) c) ⌝ }
 {
     let n = plain_operands(file, c);
     if n <= 5 {
-        return InstructionEnd::Done {
+        return EndRead::Done {
             next: past_operands(file, n, c.past(2)),
         };
     }
     match read_instruction(file, c) {
-        InstructionRead::Refused(why) => InstructionEnd::Refused(why),
+        InstructionRead::Refused(why) => EndRead::Refused(why),
         InstructionRead::Got {
             instruction: _,
             next,
-        } => InstructionEnd::Done { next },
+        } => EndRead::Done { next },
     }
 }

@@ -14,16 +14,17 @@ use Rattle.format.specs.declared.refusal.Refusal.{Refusal}
 use Rattle.format.specs.Reading.{Step, got, refused, andThen, give, ends, stops, endOf}
 use Rattle.format.specs.Records.{shapeOf}
 use Rattle.format.specs.Sections.{passOver, valueAt}
-use Rattle.data.specs.declared.PassRead.{PassRead}
-use Rattle.data.specs.declared.PassRead.the-variants as PassRead-is
-use Rattle.data.specs.View.{passRead, passEnd, skipped}
+use Rattle.reader.specs.declared.EndRead.{EndRead}
+use Rattle.reader.specs.declared.EndRead.the-variants as EndRead-is
+use Rattle.reader.specs.View.{endRead, passRead}
+use Rattle.data.specs.View.{skipped}
 
 -- the value ends where it was passed over, whatever the record
-pub value-ends : (file : List ℕ) (kind : DataKind) (offset : ℤ) (n : ℕ) (c : Cursor) (r : PassRead)
-    → passRead r ≡ passOver file (shapeOf kind) n c → passEnd r ≡ endOf (valueAt file kind offset n c)
+pub value-ends : (file : List ℕ) (kind : DataKind) (offset : ℤ) (n : ℕ) (c : Cursor) (r : EndRead)
+    → passRead r ≡ passOver file (shapeOf kind) n c → endRead r ≡ endOf (valueAt file kind offset n c)
 unfolding valueAt endOf
-value-ends file kind offset n c (PassRead-is.Got next) e = rw (← e)
-value-ends file kind offset n c (PassRead-is.Refused why) e = rw (← e)
+value-ends file kind offset n c (EndRead-is.Done next) e = rw (← e)
+value-ends file kind offset n c (EndRead-is.Refused why) e = rw (← e)
 
 -- an item by its rest
 pub skipped-item : (s : Step Cursor DataItem) {q : Cursor} → endOf s ≡ ends q → got true q ≡ skipped (andThen s (λ item. give (some item)))

@@ -1,16 +1,14 @@
--- The data readers' answers, as those of the definitions: value and next place, or the next place alone, or the refusal.
+-- The data readers' answers, as steps of the definitions: value and next place, or the refusal.
 use mathlib.Core.Bool.{Bool, true, false}
 use mathlib.Core.Option.{Option, none, some}
 use lib.IntN.{ℤ}
 use Rattle.format.specs.declared.types.Cursor.{Cursor}
 use Rattle.format.specs.declared.module.DataItem.{DataItem}
-use Rattle.format.specs.Reading.{Step, got, refused, End, ends, stops}
+use Rattle.format.specs.Reading.{Step, got, refused}
 use Rattle.data.specs.declared.OffsetRead.{OffsetRead}
 use Rattle.data.specs.declared.OffsetRead.the-variants as OffsetRead-is
 use Rattle.data.specs.declared.ItemStep.{ItemStep}
 use Rattle.data.specs.declared.ItemStep.the-variants as ItemStep-is
-use Rattle.data.specs.declared.PassRead.{PassRead}
-use Rattle.data.specs.declared.PassRead.the-variants as PassRead-is
 use Rattle.data.specs.declared.ItemRead.{ItemRead}
 use Rattle.data.specs.declared.ItemRead.the-variants as ItemRead-is
 use Rattle.data.specs.declared.skip.ItemEnd.{ItemEnd}
@@ -24,18 +22,10 @@ abbrev pub itemStep : ItemStep → Step Cursor DataItem
 itemStep (ItemStep-is.Got v next) = got v next
 itemStep (ItemStep-is.Refused why) = refused why
 
-abbrev pub passRead : PassRead → Step Cursor (Unit {0})
-passRead (PassRead-is.Got next) = got tt next
-passRead (PassRead-is.Refused why) = refused why
-
 abbrev pub itemRead : ItemRead → Step Cursor (Option DataItem)
 itemRead (ItemRead-is.Got item next) = got (some item) next
 itemRead (ItemRead-is.End next) = got none next
 itemRead (ItemRead-is.Refused why) = refused why
-
-abbrev pub passEnd : PassRead → End Cursor
-passEnd (PassRead-is.Got next) = ends next
-passEnd (PassRead-is.Refused why) = stops why
 
 -- whether there was an item, and the place after it
 unfoldable pub skipped : Step Cursor (Option DataItem) → Step Cursor Bool

@@ -12,6 +12,7 @@ use pieces::CountRead;
 use pieces::read_count;
 use pieces::span_of;
 use reader::ByteRead;
+use reader::EndRead;
 use reader::NumberRead;
 use reader::SpanRead;
 use reader::read_byte;
@@ -25,16 +26,12 @@ ghost use lib.ListN.{length};
 ghost use Rattle.format.specs.Records.{sizeLimit, shapeOf, elementsOf, lengthOf};
 ghost use Rattle.format.specs.Sections.{elementsAt, offsetAt, passOver, itemOf, valueAt, codedAt, itemAt};
 ghost use Rattle.pieces.specs.View.{countRead};
-ghost use Rattle.data.specs.View.{offsetRead, passRead, itemStep, itemRead};
+ghost use Rattle.reader.specs.View.{passRead};
+ghost use Rattle.data.specs.View.{offsetRead, itemStep, itemRead};
 ghost use Rattle.laws.proofs.Passed.{passWords};
 
 pub enum OffsetRead {
     Got { offset: i32, next: Cursor },
-    Refused(Refusal),
-}
-
-pub enum PassRead {
-    Got { next: Cursor },
     Refused(Refusal),
 }
 
@@ -99,22 +96,22 @@ fn whole_words(file: &[u8], c: Cursor) -> usize
 }
 
 // n words are passed over, not read one by one: what is left ends at the first that is not whole.
-fn pass_words(file: &[u8], n: usize, c: Cursor) -> PassRead
+fn pass_words(file: &[u8], n: usize, c: Cursor) -> EndRead
     ensures { λ r. ⌜ passRead r ≡ passWords (now (file .entry)) 4 n c ⌝ }
 {
     let whole = whole_words(file, c);
     if whole < n {
-        return PassRead::Refused(Refusal::Ended {
+        return EndRead::Refused(Refusal::Ended {
             section: 4,
             place: c.at + whole * 4,
         });
     }
-    PassRead::Got {
+    EndRead::Done {
         next: c.past(n * 4),
     }
 }
 
-fn pass_bytes(file: &[u8], n: usize, c: Cursor) -> PassRead
+fn pass_bytes(file: &[u8], n: usize, c: Cursor) -> EndRead
     ensures { λ r. ⌜ passRead r ≡ passOver (now (file .entry)) Shape.Bytes n c ⌝ }
 {
     let SpanRead::Got {
@@ -123,15 +120,15 @@ fn pass_bytes(file: &[u8], n: usize, c: Cursor) -> PassRead
         next,
     } = read_span(file, n, c)
     else {
-        return PassRead::Refused(Refusal::Ended {
+        return EndRead::Refused(Refusal::Ended {
             section: 4,
             place: c.at,
         });
     };
-    PassRead::Got { next }
+    EndRead::Done { next }
 }
 
-pub fn pass_value(file: &[u8], kind: DataKind, n: usize, c: Cursor) -> PassRead
+pub fn pass_value(file: &[u8], kind: DataKind, n: usize, c: Cursor) -> EndRead
     requires { ⌜ n < 2 ^ 31 ⌝ }
     ensures { λ r. ⌜ passRead r ≡ passOver (now (file .entry)) (shapeOf kind) n c ⌝ }
 {
@@ -139,7 +136,7 @@ pub fn pass_value(file: &[u8], kind: DataKind, n: usize, c: Cursor) -> PassRead
         Shape::Bytes => pass_bytes(file, n, c),
         Shape::Words(k) => pass_words(file, k * n, c),
         Shape::Single(k) => pass_words(file, k, c),
-        Shape::Nothing => PassRead::Got { next: c },
+        Shape::Nothing => EndRead::Done { next: c },
     }
 }
 
@@ -181,8 +178,8 @@ fn read_value(file: &[u8], kind: DataKind, offset: i32, n: usize, c: Cursor) -> 
     ensures { λ r. ⌜ itemStep r ≡ valueAt (now (file .entry)) kind offset n c ⌝ }
 {
     match pass_value(file, kind, n, c) {
-        PassRead::Refused(why) => ItemStep::Refused(why),
-        PassRead::Got { next } => ItemStep::Got {
+        EndRead::Refused(why) => ItemStep::Refused(why),
+        EndRead::Done { next } => ItemStep::Got {
             item: item_of(kind, offset, n, c.at),
             next,
         },

@@ -1,6 +1,5 @@
 // Where an item ends, for the first pass: no record is built.
 use crate::OffsetRead;
-use crate::PassRead;
 use crate::pass_value;
 use crate::read_elements;
 use crate::read_offset;
@@ -9,12 +8,14 @@ use format::refusal::Refusal;
 use format::types::Cursor;
 use pieces::CountRead;
 use reader::ByteRead;
+use reader::EndRead;
 use reader::read_byte;
 use values::module::data_kind;
 ghost use mathlib.Core.Path.{_≡_};
 ghost use Rattle.format.specs.Reading.{endOf};
 ghost use Rattle.format.specs.Sections.{codedAt, itemAt};
-ghost use Rattle.data.specs.View.{passEnd, itemEnd, skipped};
+ghost use Rattle.reader.specs.View.{endRead};
+ghost use Rattle.data.specs.View.{itemEnd, skipped};
 
 // Past an item, or past the section's end.
 pub enum ItemEnd {
@@ -24,16 +25,16 @@ pub enum ItemEnd {
 }
 
 // What stands after the code byte, which stands at `place`.
-fn skip_coded(file: &[u8], place: usize, code: u8, c: Cursor) -> PassRead
-    ensures { λ r. ⌜ passEnd r ≡ endOf (codedAt (now (file .entry)) place code c) ⌝ }
+fn skip_coded(file: &[u8], place: usize, code: u8, c: Cursor) -> EndRead
+    ensures { λ r. ⌜ endRead r ≡ endOf (codedAt (now (file .entry)) place code c) ⌝ }
 {
     match read_elements(file, code, c) {
-        CountRead::Refused(why) => PassRead::Refused(why),
+        CountRead::Refused(why) => EndRead::Refused(why),
         CountRead::Got { count, next: d } => match read_offset(file, d) {
-            OffsetRead::Refused(why) => PassRead::Refused(why),
+            OffsetRead::Refused(why) => EndRead::Refused(why),
             OffsetRead::Got { offset: _, next } => {
                 let MaybeDataKind::Is(kind) = data_kind(code >> 4) else {
-                    return PassRead::Refused(Refusal::BadKind {
+                    return EndRead::Refused(Refusal::BadKind {
                         place,
                         nibble: code >> 4,
                     });
@@ -61,7 +62,7 @@ pub fn skip_item(file: &[u8], c: Cursor) -> ItemEnd
         return ItemEnd::End { next: d };
     }
     match skip_coded(file, c.at, code, d) {
-        PassRead::Refused(why) => ItemEnd::Refused(why),
-        PassRead::Got { next } => ItemEnd::Item { next },
+        EndRead::Refused(why) => ItemEnd::Refused(why),
+        EndRead::Done { next } => ItemEnd::Item { next },
     }
 }

@@ -3,11 +3,12 @@ use crate::runs::Filled;
 use code::InstructionRead;
 use code::plain::first_of;
 use code::plain::is_plain;
-use code::plain::middles_in;
+use code::plain::middles_for;
 use code::plain::operands_for;
 use code::plain::past_two;
 use code::plain::second_of;
 use code::read_instruction;
+use format::module::INSTRUCTION_WIDTH;
 use format::types::Cursor;
 use rows::Kind;
 use store::put_instruction;
@@ -17,7 +18,7 @@ use values::instruction::addressing_of;
 ghost use mathlib.Core.Bool.{true};
 ghost use mathlib.Core.List.{[], _∷_};
 ghost use mathlib.Core.Path.{_≡_};
-ghost use Prim.Native.Nat.{_+_, _/_, _≤_};
+ghost use Prim.Native.Nat.{_+_, _≤_};
 ghost use lib.IntN.{pos};
 ghost use lib.ListN.{length};
 ghost use Rattle.code.specs.Plain.{firstOf, secondOf, pastOperands, operandsFor, middlesFor, isPlain};
@@ -41,12 +42,12 @@ fn put_addressed(file: &[u8], mode: u8, c: Cursor, words: &mut [i32], w: usize) 
     next
 }
 
-fn put_middle(file: &[u8], b: u8, c: Cursor, words: &mut [i32], w: usize)
+fn put_middle(file: &[u8], mode: u8, c: Cursor, words: &mut [i32], w: usize)
     requires { ⌜ (c .at + 4 ≤ length (now file)) × (w + 2 ≤ length (now words)) ⌝ }
-    ensures { λ _. ⌜ now (words .exit) ≡ put w (pos (b / 64) ∷ firstOf (middlesFor (middleOf (b / 64))) (now (file .entry)) c ∷ []) (now (words .entry)) ⌝ }
+    ensures { λ _. ⌜ now (words .exit) ≡ put w (pos mode ∷ firstOf (middlesFor (middleOf mode)) (now (file .entry)) c ∷ []) (now (words .entry)) ⌝ }
 {
-    let first = first_of(file, middles_in(b), c);
-    put_two(words, w, (b >> 6) as i32, first);
+    let first = first_of(file, middles_for(mode), c);
+    put_two(words, w, mode as i32, first);
 }
 
 fn put_plain(file: &[u8], c: Cursor, words: &mut [i32], w: usize) -> Cursor
@@ -54,13 +55,12 @@ fn put_plain(file: &[u8], c: Cursor, words: &mut [i32], w: usize) -> Cursor
     ensures { λ r. ⌜ Stored instructionWords (instructionAt (now (file .entry)) c) c w (now (words .entry)) r (now (words .exit)) ⌝ }
 {
     let at = c.at;
-    let b = file[at + 1];
-    let modes = addressing_of(b);
+    let modes = addressing_of(file[at + 1]);
     let middle = c.past(2);
-    let source = past_two(file, middles_in(b), middle);
+    let source = past_two(file, middles_for(modes.middle), middle);
     words[w] = file[at] as i32;
     let destination = put_addressed(file, modes.source, source, words, w + 1);
-    put_middle(file, b, middle, words, w + 4);
+    put_middle(file, modes.middle, middle, words, w + 4);
     put_addressed(file, modes.destination, destination, words, w + 6)
 }
 
@@ -71,7 +71,10 @@ pub fn fill_instruction(file: &[u8], c: Cursor, words: &mut [i32], w: usize) -> 
 {
     if is_plain(file, c) {
         let next = put_plain(file, c, words, w);
-        return Filled { next, place: w + 9 };
+        return Filled {
+            next,
+            place: w + INSTRUCTION_WIDTH,
+        };
     }
     match read_instruction(file, c) {
         InstructionRead::Refused(_) => Filled { next: c, place: w },

@@ -12,6 +12,23 @@ pub const FILE_LIMIT: usize = 16_777_216;
 
 pub const WORD_LIMIT: usize = 75_497_472;
 
+// How many table words a record has; an import module and a handler those before their functions and cases.
+pub const INSTRUCTION_WIDTH: usize = 9;
+
+pub const TYPE_WIDTH: usize = 5;
+
+pub const ITEM_WIDTH: usize = 5;
+
+pub const EXPORT_WIDTH: usize = 5;
+
+pub const IMPORT_WIDTH: usize = 1;
+
+pub const FUNCTION_WIDTH: usize = 3;
+
+pub const HANDLER_WIDTH: usize = 5;
+
+pub const CASE_WIDTH: usize = 3;
+
 pub struct Header {
     pub magic: i32,
     pub signature: Span,

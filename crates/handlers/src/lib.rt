@@ -4,11 +4,11 @@ use format::module::ExceptionCase;
 use format::module::Handler;
 use format::refusal::Refusal;
 use format::types::Cursor;
-use names::NamedEnd;
 use names::read_named;
 use pieces::FourRead;
 use pieces::SpanStep;
 use pieces::read_four;
+use reader::EndRead;
 use reader::NumberRead;
 use reader::read_operand;
 ghost use mathlib.Core.Path.{_≡_};
@@ -17,7 +17,7 @@ ghost use lib.ListN.{length};
 ghost use Rattle.format.specs.Reading.{endOf};
 ghost use Rattle.format.specs.Records.{sizeLimit};
 ghost use Rattle.format.specs.Sections.{caseAt, headAt};
-ghost use Rattle.names.specs.View.{namedEnd};
+ghost use Rattle.reader.specs.View.{endRead};
 ghost use Rattle.handlers.specs.View.{caseRead, headRead};
 
 pub enum CaseRead {
@@ -55,20 +55,20 @@ pub fn read_case(file: &[u8], c: Cursor) -> CaseRead
 }
 
 // Where a case ends, for the first pass: no record is built.
-pub fn skip_case(file: &[u8], c: Cursor) -> NamedEnd
+pub fn skip_case(file: &[u8], c: Cursor) -> EndRead
     requires { ⌜ length (now file) ≤ sizeLimit ⌝ }
-    ensures { λ r. ⌜ namedEnd r ≡ endOf (caseAt (now (file .entry)) c) ⌝ }
+    ensures { λ r. ⌜ endRead r ≡ endOf (caseAt (now (file .entry)) c) ⌝ }
 {
     match read_named(file, 8, c) {
-        SpanStep::Refused(why) => NamedEnd::Refused(why),
+        SpanStep::Refused(why) => EndRead::Refused(why),
         SpanStep::Got { span: _, next: pc } => {
             let NumberRead::Got { value: _, next } = read_operand(file, pc) else {
-                return NamedEnd::Refused(Refusal::Ended {
+                return EndRead::Refused(Refusal::Ended {
                     section: 8,
                     place: pc.at,
                 });
             };
-            NamedEnd::Done { next }
+            EndRead::Done { next }
         }
     }
 }

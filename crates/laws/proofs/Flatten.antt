@@ -1,16 +1,16 @@
 -- Records as words, one after another: how many words, and a loop that reads records and stores the words of each.
 -- Assumes nothing.
 use Prim.Native.Nat.{ℕ, _+_, _-_, _*_, _≤_, _<_}
-use mathlib.Core.Path.{_≡_, refl, sym, _∙_}
+use mathlib.Core.Path.{_≡_, refl, sym}
 use mathlib.Core.List.{List, [], _∷_, _++_, append-assoc}
-use native.Mathlib.Nat.{zero-mul, suc-mul, mul-le-mul-right}
+use native.Mathlib.Nat.{zero-mul, suc-mul}
 use native.Mathlib.Omega.{arith}
 use lib.ListN.{length, length-append}
 use Rattle.laws.proofs.Types.{Refusal}
 use Rattle.format.specs.Reading.{got, refused, Reads, leading, total}
 use Rattle.format.specs.Words.{flatten}
 use Rattle.format.specs.Put.{put}
-use Rattle.laws.proofs.Many.{leading-done, leading-turn, leading-stop, length-leading}
+use Rattle.laws.proofs.Many.{leading-done, leading-turn, leading-stop}
 use Rattle.laws.proofs.Put.{put-none, put-put}
 
 module _ {A W : Type 0} (words : A → List W) where
@@ -48,11 +48,3 @@ module _ {A W : Type 0} (words : A → List W) (m : ℕ) (each : (x : A) → len
   pub length-flatten : (xs : List A) → length (flatten words xs) ≡ length xs * m
   length-flatten [] = sym (zero-mul m)
   length-flatten (x ∷ xs) = rw (length-append, each x, length-flatten xs, suc-mul) (omega arith)
-
-  module _ {P : Type 0} (read : Reads P A) (n : ℕ) (p : P) where
-    pub fill-most : length (flatten words (leading read n p)) ≤ n * m
-    fill-most = rw (length-flatten (leading read n p)) (mul-le-mul-right m (length-leading read n p))
-
-    pub fill-turn : {x : A} {next : P} → 0 < n → read p ≡ got x next → (at : ℕ) (l : List W) → at + n * m ≤ length l
-        → put at (flatten words (leading read n p)) l ≡ put (at + m) (flatten words (leading read (n - 1) next)) (put at (words x) l)
-    fill-turn {x} h e at l room = fill-turn-wide words read n p h e at l (omega (arith, fill-most)) ∙ rw (each x)

@@ -1,6 +1,6 @@
 -- Loops that read n records one after the other: one turn, a refusal and the end; what holds of all that was read; and records that are read back.
 -- Assumes nothing.
-use Prim.Native.Nat.{ℕ, zero, suc, _+_, _-_, _≤_, _<_}
+use Prim.Native.Nat.{ℕ, zero, suc, _+_, _-_, _<_}
 use mathlib.Core.Path.{_≡_, refl, sym, ap, _∙_}
 use mathlib.Core.List.{List, [], _∷_, _++_, map, map-id, append-assoc}
 use native.Mathlib.Nat.{zero-add, suc-add, add-zero, add-assoc}
@@ -8,7 +8,7 @@ use native.Mathlib.Numerals.{sub-one}
 use native.Mathlib.Omega.{arith}
 use lib.ListN.{length, length-append}
 use Rattle.laws.proofs.Types.{Refusal}
-use Rattle.format.specs.Reading.{Step, got, refused, Reads, andThen, give, before, many, thenList, leading, ends, stops, endOf}
+use Rattle.format.specs.Reading.{Step, got, refused, Reads, andThen, give, before, many, leading, ends, stops, endOf}
 use Rattle.format.specs.Words.{flatten}
 
 -- ---- what was got was got from parts
@@ -82,15 +82,6 @@ module _ {P A : Type 0} (read : Reads P A) where
   pub many-leading : (n : ℕ) (p : P) {xs : List A} {q : P} → many read n p ≡ got xs q → leading read n p ≡ xs
   unfolding leading
   many-leading = many-ind read (λ n p xs q. leading read n p ≡ xs) (λ p. refl) (λ n p next q x xs e ih. rw (e, ih))
-
-  longest : (n : ℕ) (s : Step P A) → ((p : P) → length (leading read n p) ≤ n) → length (thenList s (λ x next. x ∷ leading read n next)) ≤ suc n
-  longest n (got x next) ih = omega (arith, ih next)
-  longest n (refused r) ih = omega arith
-
-  pub length-leading : (n : ℕ) (p : P) → length (leading read n p) ≤ n
-  unfolding leading
-  length-leading zero p = omega arith
-  length-leading (suc n) p = longest n (read p) (length-leading n)
 
 -- ---- a scan: it learns where the records end
 

@@ -5,7 +5,7 @@ ghost use mathlib.Core.Path.{_≡_};
 ghost use mathlib.Core.List.{[], _∷_, _++_};
 ghost use Prim.Native.Nat.{_+_, _≤_};
 ghost use lib.ListN.{length};
-ghost use Rattle.format.specs.Operands.{encodeWord};
+ghost use Rattle.format.specs.Operands.{fourBytes, encodeWord};
 ghost use Rattle.format.specs.Put.{put};
 
 pub fn put_byte(out: &mut [u8], at: usize, b: u8) -> usize
@@ -37,14 +37,21 @@ pub fn put_ended(out: &mut [u8], at: usize, name: &[u8]) -> usize
     put_byte(out, end, 0)
 }
 
-pub fn put_word(out: &mut [u8], at: usize, v: i32) -> usize
-    requires { ⌜ at + length (encodeWord v) ≤ length (now out) ⌝ }
-    ensures { λ r. ⌜ (r ≡ at + length (encodeWord v)) × (now (out .exit) ≡ put at (encodeWord v) (now (out .entry))) ⌝ }
+// Four bytes of a number, the most significant first.
+pub fn put_bits(out: &mut [u8], at: usize, u: u32)
+    requires { ⌜ at + 4 ≤ length (now out) ⌝ }
+    ensures { λ _. ⌜ now (out .exit) ≡ put at (fourBytes u) (now (out .entry)) ⌝ }
 {
-    let u = bits_of(0x8000_0000, v);
     out[at] = low(u >> 24);
     out[at + 1] = low(u >> 16);
     out[at + 2] = low(u >> 8);
     out[at + 3] = low(u);
+}
+
+pub fn put_word(out: &mut [u8], at: usize, v: i32) -> usize
+    requires { ⌜ at + length (encodeWord v) ≤ length (now out) ⌝ }
+    ensures { λ r. ⌜ (r ≡ at + length (encodeWord v)) × (now (out .exit) ≡ put at (encodeWord v) (now (out .entry))) ⌝ }
+{
+    put_bits(out, at, bits_of(0x8000_0000, v));
     at + 4
 }

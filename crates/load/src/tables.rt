@@ -1,6 +1,10 @@
 // The second pass: how many words there are, and the words, from the front, in file order.
 use fill::groups::fill_section;
 use fill::runs::fill_rows;
+use format::module::EXPORT_WIDTH;
+use format::module::INSTRUCTION_WIDTH;
+use format::module::ITEM_WIDTH;
+use format::module::TYPE_WIDTH;
 use rows::Kind;
 use rows::groups::Group;
 use survey::Back;
@@ -21,10 +25,10 @@ pub fn words_needed(file: &[u8], front: Front, middle: Middle, back: Back) -> us
     requires { ⌜ (length (now file) ≤ sizeLimit) × Surveyed (now file) front middle back ⌝ }
     ensures { λ r. ⌜ r ≡ ofRead 0 wordsNeeded (parse (now (file .entry)) Spec.front) ⌝ }
 {
-    front.code * 9
-        + front.types * 5
-        + middle.items * 5
-        + middle.exports * 5
+    front.code * INSTRUCTION_WIDTH
+        + front.types * TYPE_WIDTH
+        + middle.items * ITEM_WIDTH
+        + middle.exports * EXPORT_WIDTH
         + back.import_words
         + back.handler_words
 }

@@ -3,6 +3,8 @@ use crate::Measured;
 use crate::heads::measure_head;
 use crate::heads::measure_one;
 use crate::runs::measure_rows;
+use format::module::CASE_WIDTH;
+use format::module::IMPORT_WIDTH;
 use rows::Kind;
 use rows::groups::Group;
 use table_handlers::CaseFrom;
@@ -30,7 +32,7 @@ fn measure_import(file: &[u8], words: &[i32], w: usize, from: usize) -> Measured
             size: from,
             next: w,
         },
-        FunctionCountFrom::Got(count) => match measure_one(words[w], 7, 1, w, from) {
+        FunctionCountFrom::Got(count) => match measure_one(words[w], 7, IMPORT_WIDTH, w, from) {
             Measured::Wide(why) => Measured::Wide(why),
             Measured::Fits { size, next } => {
                 measure_rows(file, words, Kind::Functions, count, next, size)
@@ -49,7 +51,7 @@ fn measure_last(words: &[i32], w: usize, from: usize) -> Measured
             size: from,
             next: w,
         },
-        CaseFrom::Got(last) => measure_one(last.pc, 8, 3, w, from),
+        CaseFrom::Got(last) => measure_one(last.pc, 8, CASE_WIDTH, w, from),
     }
 }
 

@@ -1,5 +1,6 @@
 // A line of operands: the header, a section's count, the head of an import module or of a handler.
 use crate::Measured;
+use format::module::HANDLER_WIDTH;
 use format::module::Handler;
 use format::module::Header;
 use format::module::XMAGIC;
@@ -60,7 +61,7 @@ pub fn measure_head(h: Handler, w: usize, from: usize) -> Measured
     ensures { λ r. ⌜ sizeRead r ≡ measured from w (headLine h ∷ []) ⌝ }
 {
     let values = [h.offset, h.begin, h.end, h.descriptor, h.cases - 1];
-    measure_operands(&values, 8, 5, w, from)
+    measure_operands(&values, 8, HANDLER_WIDTH, w, from)
 }
 
 // The plain magic, flags and the seven numbers.

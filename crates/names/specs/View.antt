@@ -1,14 +1,12 @@
--- The answers of the readers of exports and functions, as those of the definitions: value and next place, or the next place alone, or the refusal.
+-- The answers of the readers of exports and functions, as steps of the definitions: value and next place, or the refusal.
 use Rattle.format.specs.declared.types.Cursor.{Cursor}
 use Rattle.format.specs.declared.module.ExportEntry.{ExportEntry}
 use Rattle.format.specs.declared.module.ImportEntry.{ImportEntry}
-use Rattle.format.specs.Reading.{Step, got, refused, End, ends, stops}
+use Rattle.format.specs.Reading.{Step, got, refused}
 use Rattle.names.specs.declared.ExportRead.{ExportRead}
 use Rattle.names.specs.declared.ExportRead.the-variants as ExportRead-is
 use Rattle.names.specs.declared.FunctionRead.{FunctionRead}
 use Rattle.names.specs.declared.FunctionRead.the-variants as FunctionRead-is
-use Rattle.names.specs.declared.NamedEnd.{NamedEnd}
-use Rattle.names.specs.declared.NamedEnd.the-variants as NamedEnd-is
 
 abbrev pub exportRead : ExportRead → Step Cursor ExportEntry
 exportRead (ExportRead-is.Got v next) = got v next
@@ -17,7 +15,3 @@ exportRead (ExportRead-is.Refused why) = refused why
 abbrev pub functionRead : FunctionRead → Step Cursor ImportEntry
 functionRead (FunctionRead-is.Got v next) = got v next
 functionRead (FunctionRead-is.Refused why) = refused why
-
-abbrev pub namedEnd : NamedEnd → End Cursor
-namedEnd (NamedEnd-is.Done next) = ends next
-namedEnd (NamedEnd-is.Refused why) = stops why

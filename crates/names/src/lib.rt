@@ -5,6 +5,7 @@ use format::refusal::Refusal;
 use format::types::Cursor;
 use pieces::SpanStep;
 use pieces::span_of;
+use reader::EndRead;
 use reader::NumberRead;
 use reader::SpanRead;
 use reader::read_name;
@@ -17,7 +18,8 @@ ghost use Rattle.format.specs.Reading.{endOf};
 ghost use Rattle.format.specs.Records.{sizeLimit};
 ghost use Rattle.format.specs.Sections.{nameIn, exportAt, functionAt};
 ghost use Rattle.pieces.specs.View.{spanStep};
-ghost use Rattle.names.specs.View.{exportRead, functionRead, namedEnd};
+ghost use Rattle.reader.specs.View.{endRead};
+ghost use Rattle.names.specs.View.{exportRead, functionRead};
 
 pub enum ExportRead {
     Got { export: ExportEntry, next: Cursor },
@@ -26,12 +28,6 @@ pub enum ExportRead {
 
 pub enum FunctionRead {
     Got { function: ImportEntry, next: Cursor },
-    Refused(Refusal),
-}
-
-// Where a record with a name ends.
-pub enum NamedEnd {
-    Done { next: Cursor },
     Refused(Refusal),
 }
 
@@ -116,36 +112,36 @@ pub fn read_export(file: &[u8], c: Cursor) -> ExportRead
 }
 
 // Where a function ends, for the first pass: no record is built.
-pub fn skip_function(file: &[u8], c: Cursor) -> NamedEnd
+pub fn skip_function(file: &[u8], c: Cursor) -> EndRead
     requires { ⌜ length (now file) ≤ sizeLimit ⌝ }
-    ensures { λ r. ⌜ namedEnd r ≡ endOf (functionAt (now (file .entry)) c) ⌝ }
+    ensures { λ r. ⌜ endRead r ≡ endOf (functionAt (now (file .entry)) c) ⌝ }
 {
     let NumberRead::Got {
         value: _,
         next: name,
     } = read_word(file, c)
     else {
-        return NamedEnd::Refused(Refusal::Ended {
+        return EndRead::Refused(Refusal::Ended {
             section: 7,
             place: c.at,
         });
     };
     match read_named(file, 7, name) {
-        SpanStep::Refused(why) => NamedEnd::Refused(why),
-        SpanStep::Got { span: _, next } => NamedEnd::Done { next },
+        SpanStep::Refused(why) => EndRead::Refused(why),
+        SpanStep::Got { span: _, next } => EndRead::Done { next },
     }
 }
 
-pub fn skip_export(file: &[u8], c: Cursor) -> NamedEnd
+pub fn skip_export(file: &[u8], c: Cursor) -> EndRead
     requires { ⌜ length (now file) ≤ sizeLimit ⌝ }
-    ensures { λ r. ⌜ namedEnd r ≡ endOf (exportAt (now (file .entry)) c) ⌝ }
+    ensures { λ r. ⌜ endRead r ≡ endOf (exportAt (now (file .entry)) c) ⌝ }
 {
     let NumberRead::Got {
         value: _,
         next: frame,
     } = read_operand(file, c)
     else {
-        return NamedEnd::Refused(Refusal::Ended {
+        return EndRead::Refused(Refusal::Ended {
             section: 6,
             place: c.at,
         });
@@ -155,7 +151,7 @@ pub fn skip_export(file: &[u8], c: Cursor) -> NamedEnd
         next: signature,
     } = read_operand(file, frame)
     else {
-        return NamedEnd::Refused(Refusal::Ended {
+        return EndRead::Refused(Refusal::Ended {
             section: 6,
             place: frame.at,
         });
@@ -165,13 +161,13 @@ pub fn skip_export(file: &[u8], c: Cursor) -> NamedEnd
         next: name,
     } = read_word(file, signature)
     else {
-        return NamedEnd::Refused(Refusal::Ended {
+        return EndRead::Refused(Refusal::Ended {
             section: 6,
             place: signature.at,
         });
     };
     match read_named(file, 6, name) {
-        SpanStep::Refused(why) => NamedEnd::Refused(why),
-        SpanStep::Got { span: _, next } => NamedEnd::Done { next },
+        SpanStep::Refused(why) => EndRead::Refused(why),
+        SpanStep::Got { span: _, next } => EndRead::Done { next },
     }
 }

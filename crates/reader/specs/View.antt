@@ -1,12 +1,13 @@
--- The readers' answers, as readings; and a part of a file.
+-- The readers' answers, as readings; where what is passed over ends; and a part of a file.
 use Prim.Native.Nat.{ℕ, _+_}
 use mathlib.Core.Bool.{cond}
 use mathlib.Core.List.{List, []}
 use lib.Dec.{leb}
 use lib.IntN.{ℤ}
 use lib.ListN.{length, take, drop}
+use Rattle.format.specs.declared.types.Cursor.{Cursor}
 use Rattle.format.specs.declared.types.Span.{Span}
-use Rattle.format.specs.Reading.{Read, found, short}
+use Rattle.format.specs.Reading.{Read, found, short, Step, got, refused, End, ends, stops}
 use Rattle.format.specs.Operands.{spanOf}
 use Rattle.reader.specs.declared.ByteRead.{ByteRead}
 use Rattle.reader.specs.declared.ByteRead.the-variants as B
@@ -14,6 +15,8 @@ use Rattle.reader.specs.declared.NumberRead.{NumberRead}
 use Rattle.reader.specs.declared.NumberRead.the-variants as N
 use Rattle.reader.specs.declared.SpanRead.{SpanRead}
 use Rattle.reader.specs.declared.SpanRead.the-variants as S
+use Rattle.reader.specs.declared.EndRead.{EndRead}
+use Rattle.reader.specs.declared.EndRead.the-variants as E
 
 abbrev pub byteRead : ByteRead → Read ℕ
 byteRead (B.Got v next) = found v next
@@ -26,6 +29,15 @@ numberRead N.Short = short
 abbrev pub spanRead : SpanRead → Read Span
 spanRead (S.Got start len next) = found (spanOf start len) next
 spanRead S.Short = short
+
+abbrev pub endRead : EndRead → End Cursor
+endRead (E.Done next) = ends next
+endRead (E.Refused why) = stops why
+
+-- the same of what has no value
+abbrev pub passRead : EndRead → Step Cursor (Unit {0})
+passRead (E.Done next) = got tt next
+passRead (E.Refused why) = refused why
 
 -- count bytes from a place on, and none where they leave the file
 abbrev pub partOf : List ℕ → ℕ → ℕ → List ℕ

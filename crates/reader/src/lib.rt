@@ -5,6 +5,7 @@ pub mod write;
 use bits::be16;
 use bits::be32;
 use bits::signed;
+use format::refusal::Refusal;
 use format::types::Cursor;
 ghost use mathlib.Core.Path.{_≡_};
 ghost use Rattle.format.specs.Operands.{byteAt, operandAt, wordAt, nameAt, spanAt};
@@ -29,6 +30,12 @@ pub enum SpanRead {
         next: Cursor,
     },
     Short,
+}
+
+// Where what is passed over ends.
+pub enum EndRead {
+    Done { next: Cursor },
+    Refused(Refusal),
 }
 
 pub fn read_byte(file: &[u8], c: Cursor) -> ByteRead

@@ -1,4 +1,4 @@
-// A row of a section of any kind: one loop passes over them all, one fills the table, one checks, one writes.
+// Rows of a section of any kind: one loop passes over them all, one fills the table, one checks, one measures; two write.
 pub mod groups;
 
 use format::instruction::Instruction;
@@ -17,6 +17,7 @@ pub enum Kind {
     Cases,
 }
 
+// What the definitions read as a row; no code builds one.
 pub enum Row {
     Instruction(Instruction),
     Type(TypeDescriptor),

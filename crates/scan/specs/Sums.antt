@@ -7,8 +7,6 @@ use Rattle.format.specs.declared.module.DataItem.{DataItem}
 use Rattle.format.specs.Reading.{Step, got, refused}
 use Rattle.format.specs.Words.{flatten}
 use Rattle.rows.specs.Groups.{Grouped, groupWords, groupWeight}
-use Rattle.scan.specs.declared.sections.ClosedRead.{ClosedRead}
-use Rattle.scan.specs.declared.sections.ClosedRead.the-variants as ClosedRead-is
 use Rattle.scan.specs.declared.sections.SectionRead.{SectionRead}
 use Rattle.scan.specs.declared.sections.SectionRead.the-variants as SectionRead-is
 
@@ -25,10 +23,6 @@ weighed (refused why) = refused why
 unfoldable pub summed : Step Cursor (List Grouped) → Step Cursor (ℕ × ℕ)
 summed (got gs next) = got (length gs, length (flatten groupWords gs)) next
 summed (refused why) = refused why
-
-abbrev pub closedRead : ClosedRead → Step Cursor (Unit {0})
-closedRead (ClosedRead-is.Done next) = got tt next
-closedRead (ClosedRead-is.Refused why) = refused why
 
 abbrev pub sectionRead : SectionRead → Step Cursor (ℕ × ℕ)
 sectionRead (SectionRead-is.Got count words next) = got (count, words) next

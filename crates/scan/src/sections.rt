@@ -1,8 +1,11 @@
 // Sections whose records have no fixed size: data items, import modules with their functions, handlers with their cases.
-use crate::runs::EndRead;
 use crate::runs::scan_rows;
 use data::skip::ItemEnd;
 use data::skip::skip_item;
+use format::module::CASE_WIDTH;
+use format::module::FUNCTION_WIDTH;
+use format::module::HANDLER_WIDTH;
+use format::module::IMPORT_WIDTH;
 use format::refusal::Refusal;
 use format::types::Cursor;
 use handlers::HeadRead;
@@ -10,6 +13,7 @@ use handlers::read_head;
 use pieces::CountRead;
 use pieces::read_count;
 use reader::ByteRead;
+use reader::EndRead;
 use reader::NumberRead;
 use reader::read_byte;
 use reader::read_operand;
@@ -24,13 +28,9 @@ ghost use Rattle.format.specs.Reading.{many, tally};
 ghost use Rattle.format.specs.Records.{sizeLimit};
 ghost use Rattle.format.specs.Sections.{itemsAt, closing};
 ghost use Rattle.pieces.specs.View.{countRead};
+ghost use Rattle.reader.specs.View.{passRead};
 ghost use Rattle.rows.specs.Groups.{groupAt, groupWeight, flaggedAt};
-ghost use Rattle.scan.specs.Sums.{closedRead, sectionRead, one, weighed, summed};
-
-pub enum ClosedRead {
-    Done { next: Cursor },
-    Refused(Refusal),
-}
+ghost use Rattle.scan.specs.Sums.{sectionRead, one, weighed, summed};
 
 // How many records a section has, and how many table words they need.
 pub enum SectionRead {
@@ -71,7 +71,7 @@ fn scan_import(file: &[u8], c: Cursor) -> CountRead
         CountRead::Got { count, next: d } => match scan_rows(file, Kind::Functions, count, d) {
             EndRead::Refused(why) => CountRead::Refused(why),
             EndRead::Done { next } => CountRead::Got {
-                count: 1 + count * 3,
+                count: IMPORT_WIDTH + count * FUNCTION_WIDTH,
                 next,
             },
         },
@@ -97,7 +97,7 @@ fn scan_handler(file: &[u8], c: Cursor) -> CountRead
                         });
                     };
                     CountRead::Got {
-                        count: 5 + cases * 3,
+                        count: HANDLER_WIDTH + cases * CASE_WIDTH,
                         next,
                     }
                 }
@@ -141,19 +141,19 @@ fn scan_groups(file: &[u8], group: Group, n: usize, c: Cursor) -> CountRead
 }
 
 // The closing byte of a section.
-fn close(file: &[u8], section: u8, c: Cursor) -> ClosedRead
-    ensures { λ r. ⌜ closedRead r ≡ closing (now (file .entry)) section c ⌝ }
+fn close(file: &[u8], section: u8, c: Cursor) -> EndRead
+    ensures { λ r. ⌜ passRead r ≡ closing (now (file .entry)) section c ⌝ }
 {
     let ByteRead::Got { value: byte, next } = read_byte(file, c) else {
-        return ClosedRead::Refused(Refusal::Ended {
+        return EndRead::Refused(Refusal::Ended {
             section,
             place: c.at,
         });
     };
     if byte == 0 {
-        return ClosedRead::Done { next };
+        return EndRead::Done { next };
     }
-    ClosedRead::Refused(Refusal::NotClosed {
+    EndRead::Refused(Refusal::NotClosed {
         section,
         place: c.at,
         byte,
@@ -181,8 +181,8 @@ pub fn scan_section(file: &[u8], group: Group, flags: i32, c: Cursor) -> Section
                 count: words,
                 next: e,
             } => match close(file, section, e) {
-                ClosedRead::Refused(why) => SectionRead::Refused(why),
-                ClosedRead::Done { next } => SectionRead::Got { count, words, next },
+                EndRead::Refused(why) => SectionRead::Refused(why),
+                EndRead::Done { next } => SectionRead::Got { count, words, next },
             },
         },
     }

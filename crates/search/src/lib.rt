@@ -2,6 +2,8 @@
 pub mod compare;
 
 use crate::compare::case_takes;
+use format::module::CASE_WIDTH;
+use format::module::HANDLER_WIDTH;
 use format::module::Handler;
 use table_handlers::case_there;
 use table_handlers::handler_there;
@@ -43,7 +45,7 @@ pub fn search(file: &[u8], words: &[i32], n: usize, w: usize, raised: &[u8], pc:
         let handler = handler_there(words, here);
         let cases = handler.cases as usize;
         if covers(handler, pc) {
-            let mut at = here + 5;
+            let mut at = here + HANDLER_WIDTH;
             let mut more = cases;
             // The last case is nameless: one of them takes the name.
             loop {
@@ -56,11 +58,11 @@ pub fn search(file: &[u8], words: &[i32], n: usize, w: usize, raised: &[u8], pc:
                     };
                     break 'search;
                 }
-                at += 3;
+                at += CASE_WIDTH;
                 more -= 1;
             }
         }
-        here = here + 5 + 3 * cases;
+        here = here + HANDLER_WIDTH + CASE_WIDTH * cases;
         left -= 1;
     }
     chosen

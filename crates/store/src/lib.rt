@@ -2,11 +2,19 @@
 use format::instruction::Instruction;
 use format::instruction::MiddleOperand;
 use format::instruction::Operand;
+use format::module::CASE_WIDTH;
 use format::module::DataItem;
+use format::module::EXPORT_WIDTH;
 use format::module::ExceptionCase;
 use format::module::ExportEntry;
+use format::module::FUNCTION_WIDTH;
+use format::module::HANDLER_WIDTH;
 use format::module::Handler;
+use format::module::IMPORT_WIDTH;
+use format::module::INSTRUCTION_WIDTH;
+use format::module::ITEM_WIDTH;
 use format::module::ImportEntry;
+use format::module::TYPE_WIDTH;
 use format::types::TypeDescriptor;
 use values::instruction::middle_number;
 use values::instruction::mode_number;
@@ -79,7 +87,7 @@ pub fn put_instruction(words: &mut [i32], w: usize, i: Instruction) -> usize
     put_operand(words, w + 1, source);
     put_middle(words, w + 4, middle);
     put_operand(words, w + 6, destination);
-    w + 9
+    w + INSTRUCTION_WIDTH
 }
 
 pub fn put_type(words: &mut [i32], w: usize, t: TypeDescriptor) -> usize
@@ -88,7 +96,7 @@ pub fn put_type(words: &mut [i32], w: usize, t: TypeDescriptor) -> usize
 {
     let map = t.map;
     put_five(words, w, t.id, t.size, map.start, map.len, t.pointers);
-    w + 5
+    w + TYPE_WIDTH
 }
 
 pub fn put_item(words: &mut [i32], w: usize, d: DataItem) -> usize
@@ -106,7 +114,7 @@ pub fn put_item(words: &mut [i32], w: usize, d: DataItem) -> usize
         value.start,
         value.len,
     );
-    w + 5
+    w + ITEM_WIDTH
 }
 
 pub fn put_export(words: &mut [i32], w: usize, e: ExportEntry) -> usize
@@ -115,7 +123,7 @@ pub fn put_export(words: &mut [i32], w: usize, e: ExportEntry) -> usize
 {
     let name = e.name;
     put_five(words, w, e.pc, e.frame, e.signature, name.start, name.len);
-    w + 5
+    w + EXPORT_WIDTH
 }
 
 pub fn put_function(words: &mut [i32], w: usize, f: ImportEntry) -> usize
@@ -124,7 +132,7 @@ pub fn put_function(words: &mut [i32], w: usize, f: ImportEntry) -> usize
 {
     let name = f.name;
     put_three(words, w, f.signature, name.start, name.len);
-    w + 3
+    w + FUNCTION_WIDTH
 }
 
 // An import module's own word.
@@ -133,7 +141,7 @@ pub fn put_import(words: &mut [i32], w: usize, functions: i32) -> usize
     ensures { λ r. ⌜ (r ≡ w + Spec.importWidth) × (now (words .exit) ≡ put w (functions ∷ []) (now (words .entry))) ⌝ }
 {
     words[w] = functions;
-    w + 1
+    w + IMPORT_WIDTH
 }
 
 pub fn put_handler(words: &mut [i32], w: usize, h: Handler) -> usize
@@ -141,7 +149,7 @@ pub fn put_handler(words: &mut [i32], w: usize, h: Handler) -> usize
     ensures { λ r. ⌜ (r ≡ w + Spec.handlerWidth) × (now (words .exit) ≡ put w (Spec.handlerWords h) (now (words .entry))) ⌝ }
 {
     put_five(words, w, h.offset, h.begin, h.end, h.descriptor, h.cases);
-    w + 5
+    w + HANDLER_WIDTH
 }
 
 pub fn put_case(words: &mut [i32], w: usize, case: ExceptionCase) -> usize
@@ -150,5 +158,5 @@ pub fn put_case(words: &mut [i32], w: usize, case: ExceptionCase) -> usize
 {
     let name = case.name;
     put_three(words, w, name.start, name.len, case.pc);
-    w + 3
+    w + CASE_WIDTH
 }

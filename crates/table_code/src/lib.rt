@@ -6,6 +6,7 @@ use format::instruction::MaybeMiddleMode;
 use format::instruction::MiddleMode;
 use format::instruction::MiddleOperand;
 use format::instruction::Operand;
+use format::module::INSTRUCTION_WIDTH;
 use table_pieces::byte_of;
 use table_pieces::has_room;
 use table_pieces::same_word;
@@ -148,7 +149,7 @@ fn instruction_there(words: &[i32], w: usize) -> InstructionFrom
 pub fn instruction_from(words: &[i32], w: usize) -> InstructionFrom
     ensures { λ r. ⌜ instructionStep w r ≡ instructionFrom (now (words .entry)) w ⌝ }
 {
-    if !has_room(words, 9, w) {
+    if !has_room(words, INSTRUCTION_WIDTH, w) {
         return InstructionFrom::Bad;
     }
     instruction_there(words, w)
@@ -202,7 +203,7 @@ fn good_there(words: &[i32], w: usize) -> bool
 pub fn good_instruction(words: &[i32], w: usize) -> bool
     ensures { λ r. ⌜ goodEnd w r ≡ endOf (instructionFrom (now (words .entry)) w) ⌝ }
 {
-    if !has_room(words, 9, w) {
+    if !has_room(words, INSTRUCTION_WIDTH, w) {
         return false;
     }
     good_there(words, w)

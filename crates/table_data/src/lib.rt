@@ -3,6 +3,7 @@ use bits::Natural;
 use bits::as_natural;
 use format::module::DataItem;
 use format::module::DataKind;
+use format::module::ITEM_WIDTH;
 use format::module::MaybeDataKind;
 use format::module::Shape;
 use format::types::Span;
@@ -112,7 +113,7 @@ fn item_right(file: &[u8], d: DataItem) -> bool
 pub fn item_from(file: &[u8], words: &[i32], w: usize) -> ItemFrom
     ensures { λ r. ⌜ itemStep w r ≡ itemFrom (now (file .entry)) (now (words .entry)) w ⌝ }
 {
-    if !has_room(words, 5, w) {
+    if !has_room(words, ITEM_WIDTH, w) {
         return ItemFrom::Bad;
     }
     let MaybeDataKind::Is(kind) = data_kind(byte_of(words[w])) else {

@@ -1,4 +1,7 @@
 // Import modules with their functions, handlers with their cases, in the table words: one loop that checks n of them.
+use format::module::CASE_WIDTH;
+use format::module::HANDLER_WIDTH;
+use format::module::IMPORT_WIDTH;
 use rows::Kind;
 use rows::groups::Group;
 use table_handlers::CaseFrom;
@@ -19,7 +22,13 @@ fn check_import(file: &[u8], words: &[i32], w: usize) -> EndFrom
 {
     match function_count_from(words, w) {
         FunctionCountFrom::Bad => EndFrom::Bad { place: w },
-        FunctionCountFrom::Got(count) => check_rows(file, words, Kind::Functions, count, w + 1),
+        FunctionCountFrom::Got(count) => check_rows(
+            file,
+            words,
+            Kind::Functions,
+            count,
+            w + IMPORT_WIDTH,
+        ),
     }
 }
 
@@ -31,11 +40,13 @@ fn check_handler(file: &[u8], words: &[i32], w: usize) -> EndFrom
         HandlerFrom::Bad => EndFrom::Bad { place: w },
         HandlerFrom::Got(handler) => {
             let cases = handler.cases as usize;
-            match check_rows(file, words, Kind::Cases, cases - 1, w + 5) {
+            match check_rows(file, words, Kind::Cases, cases - 1, w + HANDLER_WIDTH) {
                 EndFrom::Bad { place } => EndFrom::Bad { place },
                 EndFrom::Done { next } => match last_from(words, next) {
                     CaseFrom::Bad => EndFrom::Bad { place: next },
-                    CaseFrom::Got(_) => EndFrom::Done { next: next + 3 },
+                    CaseFrom::Got(_) => EndFrom::Done {
+                        next: next + CASE_WIDTH,
+                    },
                 },
             }
         }

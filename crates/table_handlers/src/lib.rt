@@ -1,7 +1,9 @@
 // 8: handlers of the table words without their cases, cases, and a handler's last case.
 use bits::Natural;
 use bits::as_natural;
+use format::module::CASE_WIDTH;
 use format::module::ExceptionCase;
+use format::module::HANDLER_WIDTH;
 use format::module::Handler;
 use format::types::Span;
 use table_pieces::has_room;
@@ -55,7 +57,7 @@ fn case_count_right(h: Handler) -> bool
 pub fn handler_from(words: &[i32], w: usize) -> HandlerFrom
     ensures { λ r. ⌜ handlerStep w r ≡ handlerFrom (now (words .entry)) w ⌝ }
 {
-    if !has_room(words, 5, w) {
+    if !has_room(words, HANDLER_WIDTH, w) {
         return HandlerFrom::Bad;
     }
     let handler = handler_there(words, w);
@@ -83,7 +85,7 @@ pub fn case_there(words: &[i32], w: usize) -> ExceptionCase
 pub fn case_from(file: &[u8], words: &[i32], w: usize) -> CaseFrom
     ensures { λ r. ⌜ caseStep w r ≡ caseFrom (now (file .entry)) (now (words .entry)) w ⌝ }
 {
-    if !has_room(words, 3, w) {
+    if !has_room(words, CASE_WIDTH, w) {
         return CaseFrom::Bad;
     }
     let case = case_there(words, w);
@@ -98,7 +100,7 @@ pub fn case_from(file: &[u8], words: &[i32], w: usize) -> CaseFrom
 pub fn last_from(words: &[i32], w: usize) -> CaseFrom
     ensures { λ r. ⌜ caseStep w r ≡ lastFrom (now (words .entry)) w ⌝ }
 {
-    if !has_room(words, 3, w) {
+    if !has_room(words, CASE_WIDTH, w) {
         return CaseFrom::Bad;
     }
     let last = case_there(words, w);

@@ -2,14 +2,14 @@
 -- Assumes nothing.
 use Prim.Native.Nat.{ℕ, _+_, _-_, _*_, _%_, _^_, _≤_, _<_}
 use mathlib.Core.Path.{_≡_, refl, sym, ap, _∙_, subst}
-use mathlib.Core.Bool.{Bool, true, false, cond, not}
+use mathlib.Core.Bool.{Bool, true, false, cond}
 use mathlib.Core.List.{List, [], _∷_, _++_, append-nil, append-assoc}
 use mathlib.Core.Option.{none}
 use native.Mathlib.Nat.{mod-eq-of-lt}
 use native.Mathlib.Omega.{arith}
-use borrow.Author.Tests.{leb-true, leb-false, le-ltb, lt-ltb, ltb-true, ltb-false, eq-eqb, ne-eqb}
+use borrow.Author.Tests.{le-ltb, lt-ltb, ltb-true, ltb-false}
 use lib.Bits.{bitAnd, bitOr, and-mask, or-shifted}
-use lib.Dec.{leb, ltb, eqb}
+use lib.Dec.{leb, ltb}
 use lib.IntN.{ℤ, pos, negsuc}
 use lib.Signed.{mag}
 use lib.ListN.{length, take, drop, length-append}
@@ -26,7 +26,7 @@ use Rattle.laws.proofs.Truth.{and-both}
 use Rattle.lines.specs.Lines.{bytesOf, firstWide}
 use Rattle.lines.proofs.Forms.{both-none, wide-raw, wide-append}
 use Rattle.table_pieces.specs.Bytes.{byteOf}
-use Rattle.table_lines.specs.There.{registersThere, middleThere, addressingThere, partsThere, GoodOperand, GoodMiddle}
+use Rattle.table_lines.specs.There.{usedRegisters, usedMiddle, registersThere, middleThere, addressingThere, partsThere, GoodOperand, GoodMiddle}
 use Rattle.table_lines.specs.Over.{maskOf, shiftOf, tagOf, Formed, Over}
 use Rattle.table_lines.proofs.Sizes.{registers-narrow, middle-narrow}
 
@@ -162,28 +162,24 @@ module _ (v : ℤ) (u : ℕ) (is : u ≡ bitsOf (2 ^ 31) v) (narrow : mag v < 2 
 
 -- ---- which slots are used
 
-middle-by : (n : ℕ) (a : ℤ) (t : Bool) → leb n 0 ≡ t → cond (ltb 0 n) (encodeOperand a) [] ≡ bytesOf (cond t [] (operand a ∷ []))
-middle-by n a true e = rw (le-ltb 0 n (leb-true n 0 e))
-middle-by n a false e = rw (lt-ltb 0 n (leb-false n 0 e)) (sym (append-nil (encodeOperand a)))
+middle-by : (a : ℤ) (t : Bool) → cond (ltb 0 (cond t 0 1)) (encodeOperand a) [] ≡ bytesOf (cond t [] (operand a ∷ []))
+middle-by a true = refl
+middle-by a false = sym (append-nil (encodeOperand a))
 
-pub middle-bytes : (words : List ℤ) (w : ℕ) {n : ℕ} → n ≡ byteOf (word words w) → cond (ltb 0 n) (encodeOperand (word words (w + 1))) [] ≡ bytesOf (middleThere words w)
+pub middle-bytes : (words : List ℤ) (w : ℕ) {n : ℕ} → n ≡ usedMiddle (byteOf (word words w)) → cond (ltb 0 n) (encodeOperand (word words (w + 1))) [] ≡ bytesOf (middleThere words w)
 unfolding middleThere
-middle-bytes words w e = rw e (middle-by (byteOf (word words w)) (word words (w + 1)) (leb (byteOf (word words w)) 0) refl)
+middle-bytes words w e = rw e (middle-by (word words (w + 1)) (leb (byteOf (word words w)) 0))
 
-registers-by : (n : ℕ) (a b : ℤ) (t u : Bool) → leb n 2 ≡ t → leb n 3 ≡ u
-    → cond (not (eqb n 3)) (encodeOperand a) [] ++ cond (ltb 3 n) (encodeOperand b) [] ≡ bytesOf (cond t (operand a ∷ []) (cond u [] (operand a ∷ operand b ∷ [])))
-registers-by n a b true u e f = let h = leb-true n 2 e in rw (ne-eqb n 3 (λ z. absurd (omega (arith, z))), le-ltb 3 n (omega arith))
-registers-by n a b false true e f =
-    let z : n ≡ 3 = omega (arith, leb-false n 2 e, leb-true n 3 f) in
-    rw (eq-eqb n 3 z, le-ltb 3 n (omega (arith, z)))
-registers-by n a b false false e f =
-    let h = leb-false n 3 f in
-    rw (ne-eqb n 3 (λ z. absurd (omega (arith, z))), lt-ltb 3 n h) (ap (λ (xs : List ℕ). encodeOperand a ++ xs) (sym (append-nil (encodeOperand b))))
+registers-by : (a b : ℤ) (t u : Bool)
+    → let n : ℕ = cond t 1 (cond u 0 2) in cond (ltb 0 n) (encodeOperand a) [] ++ cond (ltb 1 n) (encodeOperand b) [] ≡ bytesOf (cond t (operand a ∷ []) (cond u [] (operand a ∷ operand b ∷ [])))
+registers-by a b true u = refl
+registers-by a b false true = refl
+registers-by a b false false = ap (λ (xs : List ℕ). encodeOperand a ++ xs) (sym (append-nil (encodeOperand b)))
 
-pub register-bytes : (words : List ℤ) (w : ℕ) {n : ℕ} → n ≡ byteOf (word words w)
-    → cond (not (eqb n 3)) (encodeOperand (word words (w + 1))) [] ++ cond (ltb 3 n) (encodeOperand (word words (w + 2))) [] ≡ bytesOf (registersThere words w)
+pub register-bytes : (words : List ℤ) (w : ℕ) {n : ℕ} → n ≡ usedRegisters (byteOf (word words w))
+    → cond (ltb 0 n) (encodeOperand (word words (w + 1))) [] ++ cond (ltb 1 n) (encodeOperand (word words (w + 2))) [] ≡ bytesOf (registersThere words w)
 unfolding registersThere
-register-bytes words w e = rw e (registers-by (byteOf (word words w)) (word words (w + 1)) (word words (w + 2)) (leb (byteOf (word words w)) 2) (leb (byteOf (word words w)) 3) refl refl)
+register-bytes words w e = rw e (registers-by (word words (w + 1)) (word words (w + 2)) (leb (byteOf (word words w)) 2) (leb (byteOf (word words w)) 3))
 
 -- every register is narrow, used or not
 pub registers-range : {words : List ℤ} {w : ℕ} → GoodOperand words w → firstWide (registersThere words w) ≡ none → (mag (word words (w + 1)) < 2 ^ 29) × (mag (word words (w + 2)) < 2 ^ 29)

@@ -2,6 +2,7 @@
 use crate::byte_there;
 use line_pieces::put_byte;
 use reader::write::put_operand;
+use values::instruction::modes_byte;
 ghost use mathlib.Core.Path.{_≡_};
 ghost use Rattle.line_bytes.specs.Laid.{Ready, Laid};
 ghost use Rattle.table_lines.specs.There.{registersThere, middleThere, addressingThere, partsThere, GoodOperand, GoodMiddle, GoodWords};
@@ -13,7 +14,7 @@ pub fn addressing_there(words: &[i32], w: usize) -> u8
     let middle = byte_there(words, w + 4);
     let source = byte_there(words, w + 1);
     let destination = byte_there(words, w + 6);
-    (middle << 6) | (source << 3) | destination
+    modes_byte(middle, source, destination)
 }
 
 fn put_registers(words: &[i32], w: usize, out: &mut [u8], at: usize) -> usize

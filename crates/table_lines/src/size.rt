@@ -13,7 +13,10 @@ ghost use Rattle.table_lines.specs.There.{usedRegisters, usedMiddle, reg
 fn is_narrow(v: i32) -> bool
     ensures { λ r. ⌜ r ≡ in30bits v ⌝ }
 {
-    magnitude(v) < 0x2000_0000
+    match magnitude(v) {
+        0..=0x1FFF_FFFF => true,
+        0x2000_0000..=0xFFFF_FFFF => false,
+    }
 }
 
 // What the shortest form has over one byte: 0 for a register that is not used.
@@ -42,7 +45,7 @@ fn narrow_middle(words: &[i32], w: usize) -> bool
     is_narrow(words[w + 1])
 }
 
-fn used_registers(mode: u8) -> usize
+pub fn used_registers(mode: u8) -> usize
     ensures { λ r. ⌜ r ≡ usedRegisters mode ⌝ }
 {
     match mode {
@@ -52,7 +55,7 @@ fn used_registers(mode: u8) -> usize
     }
 }
 
-fn used_middle(mode: u8) -> usize
+pub fn used_middle(mode: u8) -> usize
     ensures { λ r. ⌜ r ≡ usedMiddle mode ⌝ }
 {
     match mode {

@@ -1,11 +1,13 @@
-// An instruction's bytes without a branch on its modes or on the forms of its operands: four bytes are stored for each of its five registers, and
-// those past a form, or for a register that is not used, are stored again by what follows.
+// An instruction's bytes with no branch on the forms of its operands: four bytes are stored for each of its five registers, and those past a form,
+// or for a register that is not used, are stored again by what follows.
 use crate::byte_there;
 use crate::bytes::addressing_there;
 use crate::size::more;
+use crate::size::used_middle;
+use crate::size::used_registers;
 use bits::bits_of;
-use bits::low;
 use bits::magnitude;
+use line_pieces::put_bits;
 use line_pieces::put_byte;
 ghost use mathlib.Core.Path.{_≡_};
 ghost use mathlib.Core.Bool.{cond};
@@ -14,14 +16,13 @@ ghost use mathlib.Core.Option.{none};
 ghost use Prim.Native.Nat.{_+_, _^_, _≤_, _<_};
 ghost use lib.ListN.{length};
 ghost use lib.Signed.{mag};
-ghost use Rattle.format.specs.Operands.{fourBytes, encodeOperand};
-ghost use Rattle.format.specs.Put.{put};
+ghost use Rattle.format.specs.Operands.{encodeOperand};
 ghost use Rattle.lines.specs.Lines.{bytesOf, firstWide};
 ghost use Rattle.table_lines.specs.There.{registersThere, middleThere, partsThere, GoodOperand, GoodMiddle, GoodWords};
 ghost use Rattle.table_lines.specs.Over.{maskOf, shiftOf, tagOf, Formed, Over};
 
-// What the bits of a form are masked by, how far they stand from the end of four bytes, and what stands above them: constants, so that no branch
-// is left.
+// What the bits of a form are masked by, how far they stand from the end of four bytes, and what stands above them: constants, so that none of
+// them is a branch.
 fn mask_of(n: u32) -> u32
     ensures { λ r. ⌜ r ≡ maskOf n ⌝ }
 {
@@ -65,16 +66,6 @@ fn form_of(v: i32) -> u32
     tag | ((u & mask) << shift)
 }
 
-fn put_bits(out: &mut [u8], at: usize, u: u32)
-    requires { ⌜ at + 4 ≤ length (now out) ⌝ }
-    ensures { λ _. ⌜ now (out .exit) ≡ put at (fourBytes u) (now (out .entry)) ⌝ }
-{
-    out[at] = low(u >> 24);
-    out[at + 1] = low(u >> 16);
-    out[at + 2] = low(u >> 8);
-    out[at + 3] = low(u);
-}
-
 fn put_slot(out: &mut [u8], at: usize, v: i32, used: bool) -> usize
     requires { ⌜ (mag v < 2 ^ 29) × (at + 4 ≤ length (now out)) ⌝ }
     ensures { λ r. ⌜ Over (cond used (encodeOperand v) []) at (now (out .entry)) r (now (out .exit)) ⌝ }
@@ -87,17 +78,17 @@ fn middle_slot(words: &[i32], w: usize, out: &mut [u8], at: usize) -> usize
     requires { ⌜ GoodMiddle (now words) w × (firstWide (middleThere (now words) w) ≡ none) × (at + length (bytesOf (middleThere (now words) w)) + 4 ≤ length (now out)) ⌝ }
     ensures { λ r. ⌜ Over (bytesOf (middleThere (now (words .entry)) w)) at (now (out .entry)) r (now (out .exit)) ⌝ }
 {
-    let mode = byte_there(words, w);
-    put_slot(out, at, words[w + 1], 0 < mode)
+    let used = used_middle(byte_there(words, w));
+    put_slot(out, at, words[w + 1], 0 < used)
 }
 
 fn register_slots(words: &[i32], w: usize, out: &mut [u8], at: usize) -> usize
     requires { ⌜ GoodOperand (now words) w × (firstWide (registersThere (now words) w) ≡ none) × (at + length (bytesOf (registersThere (now words) w)) + 4 ≤ length (now out)) ⌝ }
     ensures { λ r. ⌜ Over (bytesOf (registersThere (now (words .entry)) w)) at (now (out .entry)) r (now (out .exit)) ⌝ }
 {
-    let mode = byte_there(words, w);
-    let next = put_slot(out, at, words[w + 1], mode != 3);
-    put_slot(out, next, words[w + 2], 3 < mode)
+    let used = used_registers(byte_there(words, w));
+    let next = put_slot(out, at, words[w + 1], 0 < used);
+    put_slot(out, next, words[w + 2], 1 < used)
 }
 
 pub fn put_over(words: &[i32], w: usize, out: &mut [u8], at: usize) -> usize

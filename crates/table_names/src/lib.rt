@@ -1,7 +1,10 @@
 // 6 and 7: exports of the table words, the functions of an import module, and how many these are.
 use bits::Natural;
 use bits::as_natural;
+use format::module::EXPORT_WIDTH;
 use format::module::ExportEntry;
+use format::module::FUNCTION_WIDTH;
+use format::module::IMPORT_WIDTH;
 use format::module::ImportEntry;
 use format::types::Span;
 use table_pieces::has_room;
@@ -47,7 +50,7 @@ pub fn export_there(words: &[i32], w: usize) -> ExportEntry
 pub fn export_from(file: &[u8], words: &[i32], w: usize) -> ExportFrom
     ensures { λ r. ⌜ exportStep w r ≡ exportFrom (now (file .entry)) (now (words .entry)) w ⌝ }
 {
-    if !has_room(words, 5, w) {
+    if !has_room(words, EXPORT_WIDTH, w) {
         return ExportFrom::Bad;
     }
     let export = export_there(words, w);
@@ -75,7 +78,7 @@ pub fn function_there(words: &[i32], w: usize) -> ImportEntry
 pub fn function_from(file: &[u8], words: &[i32], w: usize) -> FunctionFrom
     ensures { λ r. ⌜ functionStep w r ≡ functionFrom (now (file .entry)) (now (words .entry)) w ⌝ }
 {
-    if !has_room(words, 3, w) {
+    if !has_room(words, FUNCTION_WIDTH, w) {
         return FunctionFrom::Bad;
     }
     let function = function_there(words, w);
@@ -89,7 +92,7 @@ pub fn function_from(file: &[u8], words: &[i32], w: usize) -> FunctionFrom
 pub fn function_count_from(words: &[i32], w: usize) -> FunctionCountFrom
     ensures { λ r. ⌜ functionCountStep w r ≡ functionCountFrom (now (words .entry)) w ⌝ }
 {
-    if !has_room(words, 1, w) {
+    if !has_room(words, IMPORT_WIDTH, w) {
         return FunctionCountFrom::Bad;
     }
     let Natural::Is(count) = as_natural(words[w]) else {

@@ -1,4 +1,10 @@
 // Rows of a section of any kind in the table words: one loop that checks n of them.
+use format::module::CASE_WIDTH;
+use format::module::EXPORT_WIDTH;
+use format::module::FUNCTION_WIDTH;
+use format::module::INSTRUCTION_WIDTH;
+use format::module::ITEM_WIDTH;
+use format::module::TYPE_WIDTH;
 use rows::Kind;
 use table_code::good_instruction;
 use table_data::ItemFrom;
@@ -26,12 +32,12 @@ pub fn row_width(kind: Kind) -> usize
     ensures { λ r. ⌜ r ≡ rowWidth kind ⌝ }
 {
     match kind {
-        Kind::Code => 9,
-        Kind::Types => 5,
-        Kind::Items => 5,
-        Kind::Exports => 5,
-        Kind::Functions => 3,
-        Kind::Cases => 3,
+        Kind::Code => INSTRUCTION_WIDTH,
+        Kind::Types => TYPE_WIDTH,
+        Kind::Items => ITEM_WIDTH,
+        Kind::Exports => EXPORT_WIDTH,
+        Kind::Functions => FUNCTION_WIDTH,
+        Kind::Cases => CASE_WIDTH,
     }
 }
 

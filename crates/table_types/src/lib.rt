@@ -1,6 +1,7 @@
 // 3: a type of the table words.
 use bits::Natural;
 use bits::as_natural;
+use format::module::TYPE_WIDTH;
 use format::types::Span;
 use format::types::TypeDescriptor;
 use reader::spans::count_pointers;
@@ -53,7 +54,7 @@ fn map_right(file: &[u8], t: TypeDescriptor) -> bool
 pub fn type_from(file: &[u8], words: &[i32], w: usize) -> TypeFrom
     ensures { λ r. ⌜ typeStep w r ≡ typeFrom (now (file .entry)) (now (words .entry)) w ⌝ }
 {
-    if !has_room(words, 5, w) {
+    if !has_room(words, TYPE_WIDTH, w) {
         return TypeFrom::Bad;
     }
     let descriptor = type_there(words, w);

@@ -4,6 +4,7 @@ use format::types::Cursor;
 use format::types::TypeDescriptor;
 use pieces::SpanStep;
 use pieces::read_sized;
+use reader::EndRead;
 use reader::NumberRead;
 use reader::read_operand;
 use reader::spans::count_pointers;
@@ -13,18 +14,14 @@ ghost use lib.ListN.{length};
 ghost use Rattle.format.specs.Reading.{endOf};
 ghost use Rattle.format.specs.Records.{sizeLimit};
 ghost use Rattle.format.specs.Sections.{typeAt};
-ghost use Rattle.types.specs.View.{typeRead, typeEnd};
+ghost use Rattle.reader.specs.View.{endRead};
+ghost use Rattle.types.specs.View.{typeRead};
 
 pub enum TypeRead {
     Got {
         descriptor: TypeDescriptor,
         next: Cursor,
     },
-    Refused(Refusal),
-}
-
-pub enum TypeEnd {
-    Done { next: Cursor },
     Refused(Refusal),
 }
 
@@ -63,16 +60,16 @@ pub fn read_type(file: &[u8], c: Cursor) -> TypeRead
 }
 
 // Where a type ends, for the first pass: the ones of its map are not counted.
-pub fn skip_type(file: &[u8], c: Cursor) -> TypeEnd
+pub fn skip_type(file: &[u8], c: Cursor) -> EndRead
     requires { ⌜ length (now file) ≤ sizeLimit ⌝ }
-    ensures { λ r. ⌜ typeEnd r ≡ endOf (typeAt (now (file .entry)) c) ⌝ }
+    ensures { λ r. ⌜ endRead r ≡ endOf (typeAt (now (file .entry)) c) ⌝ }
 {
     let NumberRead::Got {
         value: _,
         next: size,
     } = read_operand(file, c)
     else {
-        return TypeEnd::Refused(Refusal::Ended {
+        return EndRead::Refused(Refusal::Ended {
             section: 3,
             place: c.at,
         });
@@ -82,13 +79,13 @@ pub fn skip_type(file: &[u8], c: Cursor) -> TypeEnd
         next: map,
     } = read_operand(file, size)
     else {
-        return TypeEnd::Refused(Refusal::Ended {
+        return EndRead::Refused(Refusal::Ended {
             section: 3,
             place: size.at,
         });
     };
     match read_sized(file, 3, map) {
-        SpanStep::Refused(why) => TypeEnd::Refused(why),
-        SpanStep::Got { span: _, next } => TypeEnd::Done { next },
+        SpanStep::Refused(why) => EndRead::Refused(why),
+        SpanStep::Got { span: _, next } => EndRead::Done { next },
     }
 }

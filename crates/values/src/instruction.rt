@@ -5,6 +5,7 @@ use format::instruction::MaybeAddressMode;
 use format::instruction::MaybeMiddleMode;
 use format::instruction::MiddleMode;
 ghost use mathlib.Core.Path.{_≡_};
+ghost use Prim.Native.Nat.{_+_, _*_, _<_};
 ghost use Rattle.format.specs.Records.{modeOf, middleOf, modeNumber, middleNumber, maybeMode, maybeMiddle, addressingOf, addressingByte};
 
 pub fn address_mode(n: u8) -> MaybeAddressMode
@@ -67,8 +68,20 @@ pub fn addressing_of(b: u8) -> Addressing
     }
 }
 
+// The numbers of three modes in one byte.
+pub fn modes_byte(middle: u8, source: u8, destination: u8) -> u8
+    requires { ⌜ (middle < 4) × (source < 8) × (destination < 8) ⌝ }
+    ensures { λ r. ⌜ r ≡ middle * 64 + source * 8 + destination ⌝ }
+{
+    (middle << 6) | (source << 3) | destination
+}
+
 pub fn addressing_byte(middle: MiddleMode, source: AddressMode, destination: AddressMode) -> u8
     ensures { λ r. ⌜ r ≡ addressingByte middle source destination ⌝ }
 {
-    (middle_number(middle) << 6) | (mode_number(source) << 3) | mode_number(destination)
+    modes_byte(
+        middle_number(middle),
+        mode_number(source),
+        mode_number(destination),
+    )
 }

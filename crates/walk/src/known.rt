@@ -1,4 +1,5 @@
 // An event in tables that are known to be well-formed: the export's record, and the handlers.
+use format::module::EXPORT_WIDTH;
 use format::refusal::Refusal;
 use format::walk::State;
 use format::walk::Stop;
@@ -30,7 +31,7 @@ pub fn export_in(file: &[u8], words: &[i32], places: Places, k: u32, state: Stat
             state,
         };
     }
-    let export = export_there(words, places.at_exports + 5 * number);
+    let export = export_there(words, places.at_exports + EXPORT_WIDTH * number);
     WalkAnswer::Walked(exported(counts.code, counts.types, export))
 }
 

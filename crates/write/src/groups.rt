@@ -3,6 +3,9 @@ use crate::heads::put_head;
 use crate::heads::put_one;
 use crate::runs::Wrote;
 use crate::runs::write_rows;
+use format::module::CASE_WIDTH;
+use format::module::HANDLER_WIDTH;
+use format::module::IMPORT_WIDTH;
 use line_pieces::put_byte;
 use rows::Kind;
 use rows::groups::Group;
@@ -32,7 +35,15 @@ fn write_import(file: &[u8], words: &[i32], w: usize, out: &mut [u8], at: usize)
         FunctionCountFrom::Bad => Wrote { next: w, place: at },
         FunctionCountFrom::Got(count) => {
             let place = put_one(out, at, words[w]);
-            write_rows(file, words, Kind::Functions, count, w + 1, out, place)
+            write_rows(
+                file,
+                words,
+                Kind::Functions,
+                count,
+                w + IMPORT_WIDTH,
+                out,
+                place,
+            )
         }
     }
 }
@@ -46,7 +57,10 @@ fn write_last(words: &[i32], w: usize, out: &mut [u8], at: usize) -> Wrote
         CaseFrom::Bad => Wrote { next: w, place: at },
         CaseFrom::Got(last) => {
             let place = put_one(out, at, last.pc);
-            Wrote { next: w + 3, place }
+            Wrote {
+                next: w + CASE_WIDTH,
+                place,
+            }
         }
     }
 }
@@ -60,7 +74,15 @@ fn write_handler(file: &[u8], words: &[i32], w: usize, out: &mut [u8], at: usize
         HandlerFrom::Got(handler) => {
             let cases = handler.cases as usize;
             let place = put_head(out, at, handler);
-            let named = write_rows(file, words, Kind::Cases, cases - 1, w + 5, out, place);
+            let named = write_rows(
+                file,
+                words,
+                Kind::Cases,
+                cases - 1,
+                w + HANDLER_WIDTH,
+                out,
+                place,
+            );
             write_last(words, named.next, out, named.place)
         }
     }

@@ -1,4 +1,5 @@
-// One loop for every run of rows of one kind.
+// Runs of rows of one kind: one loop for every kind, and before it another for most of the instructions.
+use format::module::INSTRUCTION_WIDTH;
 use line_bytes::put_case;
 use line_bytes::put_export;
 use line_bytes::put_function;
@@ -79,7 +80,7 @@ fn write_code(file: &[u8], words: &[i32], n: usize, w: usize, out: &mut [u8], at
     let mut place = at;
     while 2 < left {
         place = put_over(words, here, out, place);
-        here += 9;
+        here += INSTRUCTION_WIDTH;
         left -= 1;
     }
     write_each(file, words, Kind::Code, left, here, out, place)

@@ -4,13 +4,7 @@ use Rattle.bits.proofs.Shifts.{shl-or}
 use borrow.Author.Needs.{needs}
 use Rattle.bits.proofs.be32.Statement.{statement}
 use Rattle.bits.proofs.be32.Tie as tie
-use Rattle.bits.proofs.be32.Reads as reads
-use Rattle.bits.proofs.be32.Lts as lts
-use Rattle.bits.proofs.be16.Reads as be16-reads
 
--- src/bits.rt:22:6
--- src/bits.rt:22:26
--- src/bits.rt:19:1
 returns : tie.Need-returns
 returns c = shl-or 16 (c .before .be16 .result) (c .be162 .result) (omega arith) (omega arith) ∙ omega arith
 

@@ -7,7 +7,7 @@ use Rattle.format.specs.Records.{shapeOf}
 use Rattle.format.specs.Sections.{passOver, valueAt}
 use Rattle.laws.proofs.Told.{told}
 use Rattle.laws.proofs.Values.{elements-fit, pass-inside}
-use Rattle.data.specs.View.{passRead}
+use Rattle.reader.specs.View.{passRead}
 use borrow.Author.Needs.{needs}
 use Rattle.data.proofs.read_value.Statement.{statement}
 use Rattle.data.proofs.read_value.Tie as tie

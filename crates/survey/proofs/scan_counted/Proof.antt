@@ -3,7 +3,7 @@ use Rattle.format.specs.Reading.{got}
 use Rattle.format.specs.Sections.{counted}
 use Rattle.laws.proofs.Told.{told}
 use Rattle.pieces.specs.View.{countRead}
-use Rattle.scan.specs.Ends.{endRead}
+use Rattle.reader.specs.View.{endRead}
 use Rattle.survey.proofs.Facts.{count-refused, rows-stop, rows-end}
 use borrow.Author.Needs.{needs}
 use Rattle.survey.proofs.scan_counted.Statement.{statement}

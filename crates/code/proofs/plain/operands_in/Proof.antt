@@ -3,13 +3,16 @@ use mathlib.Core.Path.{_≡_, refl, ap, _∙_}
 use native.Mathlib.Omega.{arith}
 use Rattle.format.specs.declared.instruction.Addressing.{Addressing}
 use Rattle.format.specs.Records.{modeOf, middleOf}
-use Rattle.code.specs.Plain.{operandsFor}
+use Rattle.code.specs.Plain.{operandsFor, middlesFor}
 use Rattle.code.proofs.PlainLaws.{operands-most, middles-most, operands-split}
 use borrow.Author.Needs.{needs}
 use Rattle.code.proofs.plain.operands_in.Statement.{statement}
 use Rattle.code.proofs.plain.operands_in.Tie as tie
 
--- the source's operands, and the destination's
+-- the middle operands, the source's and the destination's
+middles : (c : tie.After-middles-for) → c .middles-for .result ≡ middlesFor (middleOf (c .before .before .args .b / 64))
+middles c = c .middles-for .ensures ∙ ap (λ (a : Addressing). middlesFor (middleOf (a .middle))) (c .before .addressing-of .ensures)
+
 sources : (c : tie.After-operands-for) → c .operands-for .result ≡ operandsFor (modeOf (c .before .before .before .args .b / 8 % 8))
 sources c = c .operands-for .ensures ∙ ap (λ (a : Addressing). operandsFor (modeOf (a .source))) (c .before .before .addressing-of .ensures)
 
@@ -19,7 +22,7 @@ destinations c = c .operands-for2 .ensures ∙ ap (λ (a : Addressing). operands
 add-result : tie.Need-add-result
 add-result c =
     let b = c .before .before .before .args .b in
-    omega (arith, c .before .middles-in .ensures, sources c, middles-most (middleOf (b / 64)), operands-most (modeOf (b / 8 % 8)))
+    omega (arith, middles (c .before), sources c, middles-most (middleOf (b / 64)), operands-most (modeOf (b / 8 % 8)))
 
 add-result-2 : tie.Need-add-result-2
 add-result-2 c =
@@ -27,7 +30,7 @@ add-result-2 c =
     let b = s .before .before .before .args .b in
     omega (
       arith,
-      s .before .middles-in .ensures,
+      middles (s .before),
       sources s,
       destinations c,
       middles-most (middleOf (b / 64)),
@@ -38,7 +41,7 @@ add-result-2 c =
 returns : tie.Need-returns
 returns c =
     let s = c .before in
-    omega (arith, s .before .middles-in .ensures, sources s, destinations c, operands-split (s .before .before .before .args .b) refl)
+    omega (arith, middles (s .before), sources s, destinations c, operands-split (s .before .before .before .args .b) refl)
 
 pub operands-in-spec : {M : Type 1} → statement M
 operands-in-spec =

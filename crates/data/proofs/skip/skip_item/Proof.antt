@@ -6,8 +6,8 @@ use Rattle.format.specs.Reading.{found, andThen, give}
 use Rattle.format.specs.Operands.{byteAt}
 use Rattle.format.specs.Sections.{codedAt, itemAt}
 use Rattle.laws.proofs.Told.{told}
-use Rattle.reader.specs.View.{byteRead}
-use Rattle.data.specs.View.{passEnd, skipped}
+use Rattle.reader.specs.View.{byteRead, endRead}
+use Rattle.data.specs.View.{skipped}
 use Rattle.data.proofs.Skipped.{skipped-item, skipped-stops}
 use borrow.Author.Needs.{needs}
 use Rattle.data.proofs.skip.skip_item.Statement.{statement}
@@ -37,10 +37,10 @@ unfolding itemAt
 item-is c = rw (code-is (c .before .before), ne-eqb _ _ (c .before .if1 .left))
 
 returns-3 : tie.Need-returns-3
-returns-3 c = let k = c .before .before .before in rw (item-is k) (skipped-stops _ (told passEnd (k .skip-coded .ensures) (c .before .why .given .1)))
+returns-3 c = let k = c .before .before .before in rw (item-is k) (skipped-stops _ (told endRead (k .skip-coded .ensures) (c .before .why .given .1)))
 
 returns-4 : tie.Need-returns-4
-returns-4 c = let k = c .before .before .before in rw (item-is k) (skipped-item _ (told passEnd (k .skip-coded .ensures) (c .before .next .given .1)))
+returns-4 c = let k = c .before .before .before in rw (item-is k) (skipped-item _ (told endRead (k .skip-coded .ensures) (c .before .next .given .1)))
 
 pub skip-item-spec : {M : Type 1} → statement M
 skip-item-spec =

@@ -1,4 +1,4 @@
-use Prim.Native.Nat.{ℕ, _/_}
+use Prim.Native.Nat.{ℕ}
 use mathlib.Core.Path.{_≡_, refl, ap, _∙_}
 use mathlib.Core.List.{[], _∷_}
 use native.Mathlib.Omega.{arith}
@@ -19,10 +19,10 @@ returns c =
     let o = f .before in
     let a = o .before .before .args in
     let file = now (a .file) in
-    let n = middlesFor (middleOf (a .b / 64)) in
-    let first : f .first-of .result ≡ firstOf n file (a .c) = f .first-of .ensures ∙ ap (λ (k : ℕ). firstOf k file (a .c)) (o .middles-in .ensures) in
-    two-numbered (a .w) (now (a .words)) (a .b / 64) (a .b / 64) (f .first-of .result) (p .put-two .ensures) refl (omega arith) (omega (arith, f .first-of .ok))
-    ∙ ap (λ (x : ℤ). put (a .w) (pos (a .b / 64) ∷ x ∷ []) (now (a .words))) first
+    let n = middlesFor (middleOf (a .mode)) in
+    let first : f .first-of .result ≡ firstOf n file (a .c) = f .first-of .ensures ∙ ap (λ (k : ℕ). firstOf k file (a .c)) (o .middles-for .ensures) in
+    two-numbered (a .w) (now (a .words)) (a .mode) (a .mode) (f .first-of .result) (p .put-two .ensures) refl (omega arith) (omega (arith, f .first-of .ok))
+    ∙ ap (λ (x : ℤ). put (a .w) (pos (a .mode) ∷ x ∷ []) (now (a .words))) first
 
 pub put-middle-spec : {M : Type 1} → statement M
 put-middle-spec =

@@ -1,4 +1,3 @@
-use Prim.Native.Nat.{_+_, _/_}
 use mathlib.Core.Path.{_≡_, ap, _∙_}
 use mathlib.Core.Option.{some}
 use native.Mathlib.Omega.{arith}
@@ -14,7 +13,7 @@ use Rattle.format.specs.declared.instruction.Addressing.{Addressing}
 use Rattle.format.specs.declared.types.Cursor.{Cursor}
 use Rattle.format.specs.Reading.{past}
 use Rattle.format.specs.Operands.{byte}
-use Rattle.format.specs.Records.{modeOf}
+use Rattle.format.specs.Records.{modeOf, middleOf}
 use Rattle.laws.proofs.Put.{put-one}
 use Rattle.fill.proofs.PlainWords.{addressed-words, addressed-next, middle-words, middle-next, nine-words, plain-stored}
 use borrow.Author.Needs.{needs}
@@ -24,13 +23,16 @@ use Rattle.fill.proofs.instructions.put_plain.Tie as tie
 plain-here : (c : tie.After-shared-slice-known) → let a = c .before .args in Plain (now (a .file)) (a .c)
 plain-here c = plain-is _ _ (c .before .pre .0)
 
-add-b : tie.Need-add-b
-add-b c = omega (arith, plain-here c .room)
+add-addressing-of : tie.Need-add-addressing-of
+add-addressing-of c = omega (arith, plain-here c .room)
 
-shared-slice-read-b : tie.Need-shared-slice-read-b
-shared-slice-read-b c = omega (arith, plain-here (c .before) .room)
+shared-slice-read-addressing-of : tie.Need-shared-slice-read-addressing-of
+shared-slice-read-addressing-of c = omega (arith, plain-here (c .before) .room)
 
 -- what the addressing byte says
+middle-mode : (c : tie.After-addressing-of) → let p = plain-here (c .before .before) in middleOf (c .addressing-of .result .middle) ≡ some (p .middle)
+middle-mode c = ap (λ (a : Addressing). middleOf (a .middle)) (c .addressing-of .ensures) ∙ plain-here (c .before .before) .isMiddle
+
 source-mode : (c : tie.After-addressing-of) → let p = plain-here (c .before .before) in modeOf (c .addressing-of .result .source) ≡ some (p .source)
 source-mode c = ap (λ (a : Addressing). modeOf (a .source)) (c .addressing-of .ensures) ∙ plain-here (c .before .before) .isSource
 
@@ -43,8 +45,8 @@ past-requires : tie.Need-past-requires
 past-requires c κs = omega (arith, plain-here (c .before .before) .room)
 
 -- at most one middle operand
-middles-few : (c : tie.After-middles-in) → c .middles-in .result ≡ middlesFor (some (plain-here (c .before .before .before .before) .middle))
-middles-few c = c .middles-in .ensures ∙ ap middlesFor (plain-here (c .before .before .before .before) .isMiddle)
+middles-few : (c : tie.After-middles-for) → c .middles-for .result ≡ middlesFor (some (plain-here (c .before .before .before .before) .middle))
+middles-few c = c .middles-for .ensures ∙ ap middlesFor (middle-mode (c .before .before))
 
 past-two-requires : tie.Need-past-two-requires
 past-two-requires c κs =
@@ -61,7 +63,7 @@ source-is c =
     let m = c .before in
     let k = m .before .before .before .before in
     let file = now (k .before .args .file) in
-    c .past-two .ensures ∙ middle-next file (m .before .past .ensures) (byte file (k .before .args .c .at + 1) / 64) (plain-here k .isMiddle) (m .middles-in .ensures)
+    c .past-two .ensures ∙ middle-next file (m .before .past .ensures) (m .before .before .addressing-of .result .middle) (middle-mode (m .before .before)) (m .middles-for .ensures)
 
 destination-is : (c : tie.After-put-addressed) →
     let k = c .before .before .before .before .before .before .before .before in
@@ -130,7 +132,7 @@ returns c =
     let modes = o .addressing-of .result in
     let small : toZ w32 (byte file (a .c .at)) ≡ pos (byte file (a .c .at)) = toZ-pos w32 (omega (arith, k .shared-slice-known .given (a .c .at))) in
     let source = addressed-words file (source-is s) (modes .source) (source-mode o) in
-    let middle = middle-words file (s .before .before .past .ensures) (byte file (a .c .at + 1) / 64) (p .isMiddle) in
+    let middle = middle-words file (s .before .before .past .ensures) (modes .middle) (middle-mode o) in
     let destination = addressed-words file (destination-is d) (modes .destination) (destination-mode o) in
     plain-stored file (a .c) p
     (c .before .put-addressed2 .ensures .0 ∙ addressed-next file (destination-is d) (modes .destination) (destination-mode o))
@@ -141,8 +143,8 @@ pub put-plain-spec : {M : Type 1} → statement M
 put-plain-spec =
     tie.close
     (tie.spec
-    add-b
-    shared-slice-read-b
+    add-addressing-of
+    shared-slice-read-addressing-of
     (λ c κs. search needs)
     past-requires
     (λ c κs. search needs)

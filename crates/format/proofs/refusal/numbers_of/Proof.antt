@@ -10,10 +10,6 @@ use Rattle.format.specs.Types.{Numbered, Refusal}
 use Rattle.format.specs.Refusals.{four, numberedOf}
 use Rattle.format.proofs.refusal.numbers_of.Statement.{statement}
 use Rattle.format.proofs.refusal.numbers_of.Tie as tie
-use Rattle.format.proofs.refusal.numbers_of.Reads as reads
-use Rattle.format.proofs.refusal.numbers_of.Lts as lts
-use Rattle.format.proofs.refusal.four.Reads as four-reads
-use Rattle.format.proofs.refusal.signed_four.Reads as signed-four-reads
 
 told : {why w : Refusal} {r : Numbered} → r ≡ numberedOf w → why ≡ w → r ≡ numberedOf why
 told e q = e ∙ ap numberedOf (sym q)

@@ -3,8 +3,8 @@ use native.Mathlib.Omega.{arith}
 use Rattle.format.specs.Reading.{many, endOf}
 use Rattle.laws.proofs.Many.{scan-done}
 use Rattle.laws.proofs.Told.{told}
+use Rattle.reader.specs.View.{endRead}
 use Rattle.rows.specs.Rows.{rowAt}
-use Rattle.scan.specs.Ends.{endRead}
 use Rattle.scan.proofs.Facts.{pass-turn, pass-stop}
 use borrow.Author.Needs.{needs}
 use Rattle.scan.proofs.runs.scan_rows.Statement.{statement}

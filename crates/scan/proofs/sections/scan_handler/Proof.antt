@@ -6,12 +6,11 @@ use Rattle.format.specs.Reading.{got, many, endOf}
 use Rattle.format.specs.Sections.{headAt, handlerAt}
 use Rattle.laws.proofs.Groups.{Cased, head-cases, cases-are}
 use Rattle.laws.proofs.Told.{told}
-use Rattle.reader.specs.View.{numberRead}
+use Rattle.reader.specs.declared.EndRead.{EndRead}
+use Rattle.reader.specs.View.{numberRead, endRead}
 use Rattle.handlers.specs.View.{headRead}
 use Rattle.rows.specs.declared.Kind.the-variants.{Cases}
-use Rattle.scan.specs.declared.runs.EndRead.{EndRead}
 use Rattle.rows.specs.Rows.{rowAt}
-use Rattle.scan.specs.Ends.{endRead}
 use Rattle.scan.specs.Sums.{weighed}
 use Rattle.scan.proofs.Facts.{handler-stops, handler-short, handler-ends}
 use borrow.Author.Needs.{needs}

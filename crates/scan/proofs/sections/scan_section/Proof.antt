@@ -9,9 +9,10 @@ use Rattle.bits.proofs.Signs.{kept}
 use Rattle.laws.proofs.Told.{told}
 use Rattle.pieces.specs.declared.CountRead.{CountRead}
 use Rattle.pieces.specs.View.{countRead}
-use Rattle.scan.specs.declared.sections.ClosedRead.{ClosedRead}
+use Rattle.reader.specs.declared.EndRead.{EndRead}
+use Rattle.reader.specs.View.{passRead}
 use Rattle.rows.specs.Groups.{groupAt, groupWeight, sectionOf, flagOf, flaggedAt}
-use Rattle.scan.specs.Sums.{summed, closedRead}
+use Rattle.scan.specs.Sums.{summed}
 use Rattle.scan.proofs.Facts.{section-not, section-count, section-groups, section-closed}
 use borrow.Author.Needs.{needs}
 use Rattle.scan.proofs.sections.scan_section.Statement.{statement}
@@ -51,16 +52,16 @@ returns-3 c =
     sym (section-groups _ (a .group) (a .flags) _ (on-is (r .before)) (counts-are r (g .before .before .count .given .1)) (groups-are g (c .before .why2 .given .1)))
 
 -- the closing byte is the last thing that is asked
-closed : (c : tie.After-close) {r : ClosedRead} → c .close .result ≡ r →
+closed : (c : tie.After-close) {r : EndRead} → c .close .result ≡ r →
     let g = c .before .before .before .before in
     let a = g .before .before .before .before .before .before .before .before .before .args in
-    summed (flaggedAt (now (a .file)) (a .group) (a .flags) (a .c)) ≡ andThen (closedRead r) (λ _. give (g .before .before .count .given .0 .0, c .before .before .words .given .0 .0))
+    summed (flaggedAt (now (a .file)) (a .group) (a .flags) (a .c)) ≡ andThen (passRead r) (λ _. give (g .before .before .count .given .0 .0, c .before .before .words .given .0 .0))
 closed c {r} q =
     let g = c .before .before .before .before in
     let n = g .before .before .before .before in
     let a = n .before .before .before .before .before .args in
     section-closed _ (a .group) (a .flags) _ (on-is (n .before)) (counts-are n (g .before .before .count .given .1)) (groups-are g (c .before .before .words .given .1))
-    (closedRead r) (told closedRead (rw (n .before .section-of .ensures) at (c .close .ensures)) q)
+    (passRead r) (told passRead (rw (n .before .section-of .ensures) at (c .close .ensures)) q)
 
 returns-4 : tie.Need-returns-4
 returns-4 c = sym (closed (c .before .before .before) (c .before .why3 .given .1))

@@ -5,7 +5,6 @@ use Rattle.laws.proofs.Types.{AddressMode, MiddleMode}
 use Rattle.format.specs.declared.instruction.AddressMode.the-variants as A
 use Rattle.format.specs.declared.instruction.MiddleMode.the-variants as M
 use Rattle.format.specs.Records.{modeNumber, middleNumber, addressingByte}
-use Rattle.bits.proofs.Shifts.{side-by-side}
 use Rattle.values.proofs.instruction.addressing_byte.Statement.{statement}
 use Rattle.values.proofs.instruction.addressing_byte.Tie as tie
 
@@ -23,12 +22,16 @@ middle-bits M.SmallImmediate = omega arith
 middle-bits M.SmallOffsetFp = omega arith
 middle-bits M.SmallOffsetMp = omega arith
 
+modes-byte-requires : tie.Need-modes-byte-requires
+modes-byte-requires c κs =
+    let a = c .before .before .before .args in
+    rw (c .before .before .middle-number .ensures, c .before .mode-number .ensures, c .mode-number2 .ensures) (middle-bits (a .middle), mode-bits (a .source), mode-bits (a .destination))
+
 returns : tie.Need-returns
 unfolding addressingByte
 returns c =
-    let a = c .before .before .before .args in
-    rw (c .before .before .middle-number .ensures, c .before .mode-number .ensures, c .mode-number2 .ensures)
-    (side-by-side (middleNumber (a .middle)) (modeNumber (a .source)) (modeNumber (a .destination)) (middle-bits (a .middle)) (mode-bits (a .source)) (mode-bits (a .destination)))
+    let n = c .before in
+    rw (c .modes-byte .ensures, n .before .before .middle-number .ensures, n .before .mode-number .ensures, n .mode-number2 .ensures)
 
 pub addressing-byte-spec : {M : Type 1} → statement M
-addressing-byte-spec = tie.close (tie.spec (λ c κs. search needs) (λ c κs. search needs) (λ c κs. search needs) returns)
+addressing-byte-spec = tie.close (tie.spec (λ c κs. search needs) (λ c κs. search needs) (λ c κs. search needs) modes-byte-requires returns)

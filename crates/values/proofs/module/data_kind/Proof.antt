@@ -1,6 +1,6 @@
 use mathlib.Core.Path.{_≡_}
 use native.Mathlib.Omega.{arith}
-use Prim.Native.Nat.{ℕ, zero, suc, _≤_, _-_}
+use Prim.Native.Nat.{ℕ, zero, suc, _≤_}
 use mathlib.Core.Option.{none}
 use Rattle.format.specs.Records.{kinds, kindOf}
 use Rattle.format.proofs.Ranges.{from-zero, above, none-past}

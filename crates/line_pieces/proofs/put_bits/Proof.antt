@@ -2,8 +2,8 @@ use native.Mathlib.Omega.{arith}
 use lib.ListN.{length-set}
 use Rattle.laws.proofs.Put.{put-four}
 use borrow.Author.Needs.{needs}
-use Rattle.table_lines.proofs.slots.put_bits.Statement.{statement}
-use Rattle.table_lines.proofs.slots.put_bits.Tie as tie
+use Rattle.line_pieces.proofs.put_bits.Statement.{statement}
+use Rattle.line_pieces.proofs.put_bits.Tie as tie
 
 slice-write-out-2 : tie.Need-slice-write-out-2
 slice-write-out-2 c = simp length-set (omega (arith, c .before .before .before .pre))
