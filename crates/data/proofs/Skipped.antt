@@ -1,7 +1,7 @@
 -- An item that is passed over: where it ends, and what a caller learns of it.
 -- Assumes nothing.
 use Prim.Native.Nat.{ℕ}
-use mathlib.Core.Path.{_≡_, ap}
+use mathlib.Core.Path.{_≡_, sym, ap}
 use mathlib.Core.Bool.{true, false}
 use mathlib.Core.List.{List}
 use mathlib.Core.Option.{Option, none, some}
@@ -13,18 +13,15 @@ use Rattle.format.specs.declared.module.DataKind.{DataKind}
 use Rattle.format.specs.declared.refusal.Refusal.{Refusal}
 use Rattle.format.specs.Reading.{Step, got, refused, andThen, give, ends, stops, endOf}
 use Rattle.format.specs.Records.{shapeOf}
-use Rattle.format.specs.Sections.{passOver, valueAt}
-use Rattle.reader.specs.declared.EndRead.{EndRead}
-use Rattle.reader.specs.declared.EndRead.the-variants as EndRead-is
-use Rattle.reader.specs.View.{endRead, passRead}
+use Rattle.format.specs.Sections.{passOver, itemOf, valueAt}
+use Rattle.laws.proofs.Scans.{end-named}
 use Rattle.data.specs.View.{skipped}
 
 -- the value ends where it was passed over, whatever the record
-pub value-ends : (file : List ℕ) (kind : DataKind) (offset : ℤ) (n : ℕ) (c : Cursor) (r : EndRead)
-    → passRead r ≡ passOver file (shapeOf kind) n c → endRead r ≡ endOf (valueAt file kind offset n c)
-unfolding valueAt endOf
-value-ends file kind offset n c (EndRead-is.Done next) e = rw (← e)
-value-ends file kind offset n c (EndRead-is.Refused why) e = rw (← e)
+pub value-ends : (file : List ℕ) (kind : DataKind) (offset : ℤ) (n : ℕ) (c : Cursor)
+    → endOf (passOver file (shapeOf kind) n c) ≡ endOf (valueAt file kind offset n c)
+unfolding valueAt
+value-ends file kind offset n c = sym (end-named (λ u. itemOf (shapeOf kind) kind offset n (c .at)) (passOver file (shapeOf kind) n c))
 
 -- an item by its rest
 pub skipped-item : (s : Step Cursor DataItem) {q : Cursor} → endOf s ≡ ends q → got true q ≡ skipped (andThen s (λ item. give (some item)))

@@ -23,10 +23,11 @@ use values::module::shape_of;
 ghost use mathlib.Core.Path.{_≡_};
 ghost use Prim.Native.Nat.{_-_, _/_, _≤_, _<_, _^_};
 ghost use lib.ListN.{length};
+ghost use Rattle.format.specs.Reading.{endOf};
 ghost use Rattle.format.specs.Records.{sizeLimit, shapeOf, elementsOf, lengthOf};
 ghost use Rattle.format.specs.Sections.{elementsAt, offsetAt, passOver, itemOf, valueAt, codedAt, itemAt};
 ghost use Rattle.pieces.specs.View.{countRead};
-ghost use Rattle.reader.specs.View.{passRead};
+ghost use Rattle.reader.specs.View.{endRead};
 ghost use Rattle.data.specs.View.{offsetRead, itemStep, itemRead};
 ghost use Rattle.laws.proofs.Passed.{passWords};
 
@@ -97,7 +98,7 @@ fn whole_words(file: &[u8], c: Cursor) -> usize
 
 // n words are passed over, not read one by one: what is left ends at the first that is not whole.
 fn pass_words(file: &[u8], n: usize, c: Cursor) -> EndRead
-    ensures { λ r. ⌜ passRead r ≡ passWords (now (file .entry)) 4 n c ⌝ }
+    ensures { λ r. ⌜ endRead r ≡ endOf (passWords (now (file .entry)) 4 n c) ⌝ }
 {
     let whole = whole_words(file, c);
     if whole < n {
@@ -112,7 +113,7 @@ fn pass_words(file: &[u8], n: usize, c: Cursor) -> EndRead
 }
 
 fn pass_bytes(file: &[u8], n: usize, c: Cursor) -> EndRead
-    ensures { λ r. ⌜ passRead r ≡ passOver (now (file .entry)) Shape.Bytes n c ⌝ }
+    ensures { λ r. ⌜ endRead r ≡ endOf (passOver (now (file .entry)) Shape.Bytes n c) ⌝ }
 {
     let SpanRead::Got {
         start: _,
@@ -130,7 +131,7 @@ fn pass_bytes(file: &[u8], n: usize, c: Cursor) -> EndRead
 
 pub fn pass_value(file: &[u8], kind: DataKind, n: usize, c: Cursor) -> EndRead
     requires { ⌜ n < 2 ^ 31 ⌝ }
-    ensures { λ r. ⌜ passRead r ≡ passOver (now (file .entry)) (shapeOf kind) n c ⌝ }
+    ensures { λ r. ⌜ endRead r ≡ endOf (passOver (now (file .entry)) (shapeOf kind) n c) ⌝ }
 {
     match shape_of(kind) {
         Shape::Bytes => pass_bytes(file, n, c),

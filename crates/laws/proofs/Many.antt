@@ -111,7 +111,12 @@ module _ {P A : Type 0} (read : Reads P A) (n : ℕ) (p : P) where
   pub scanned : {q : P} → endOf (many read n p) ≡ ends q → many read n p ≡ got (leading read n p) q
   scanned e = scan-by (many read n p) refl e
 
--- and one that stopped was refused
+-- what ended was read, and what stopped was refused
+pub ended : {P A : Type 0} (s : Step P A) {q : P} → endOf s ≡ ends q → (x : A) × (s ≡ got x q)
+unfolding endOf
+ended (got x next) e = (x, ap (got x) (cc))
+ended (refused r) e = let z : _≡_ {A = ℕ} 0 1 = cc in absurd (omega arith)
+
 pub stopped : {P A : Type 0} (s : Step P A) {r : Refusal} → endOf s ≡ stops r → s ≡ refused r
 unfolding endOf
 stopped (got x q) e = cc

@@ -7,7 +7,7 @@ use lib.IntN.{ℤ}
 use lib.ListN.{length, take, drop}
 use Rattle.format.specs.declared.types.Cursor.{Cursor}
 use Rattle.format.specs.declared.types.Span.{Span}
-use Rattle.format.specs.Reading.{Read, found, short, Step, got, refused, End, ends, stops}
+use Rattle.format.specs.Reading.{Read, found, short, End, ends, stops}
 use Rattle.format.specs.Operands.{spanOf}
 use Rattle.reader.specs.declared.ByteRead.{ByteRead}
 use Rattle.reader.specs.declared.ByteRead.the-variants as B
@@ -33,11 +33,6 @@ spanRead S.Short = short
 abbrev pub endRead : EndRead → End Cursor
 endRead (E.Done next) = ends next
 endRead (E.Refused why) = stops why
-
--- the same of what has no value
-abbrev pub passRead : EndRead → Step Cursor (Unit {0})
-passRead (E.Done next) = got tt next
-passRead (E.Refused why) = refused why
 
 -- count bytes from a place on, and none where they leave the file
 abbrev pub partOf : List ℕ → ℕ → ℕ → List ℕ

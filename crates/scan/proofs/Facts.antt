@@ -13,14 +13,14 @@ use Rattle.format.specs.declared.module.ImportEntry.{ImportEntry}
 use Rattle.format.specs.declared.module.ExceptionCase.{ExceptionCase}
 use Rattle.format.specs.declared.refusal.Refusal.{Refusal}
 use Rattle.format.specs.declared.refusal.Refusal.the-variants.{Ended}
-use Rattle.format.specs.Reading.{Step, got, refused, found, short, Reads, andThen, give, many, leading, End, ends, stops, endOf, tally}
+use Rattle.format.specs.Reading.{Step, got, refused, found, short, Reads, andThen, give, many, leading, ends, stops, endOf, tally}
 use Rattle.format.specs.Operands.{operandAt}
 use Rattle.format.specs.Words.{flatten, importWords, handledWords}
 use Rattle.format.specs.Sections.{nowhere, countIn, functionAt, importAt, caseAt, lastAt, casesAt, headAt, handlerAt, closing, underFlag}
 use Rattle.laws.proofs.Flatten.{total-flatten}
 use Rattle.laws.proofs.Groups.{Cased, flag-renamed}
 use Rattle.laws.proofs.Limit.{import-weighs, handler-weighs}
-use Rattle.laws.proofs.Many.{many-length, scan-turn, scan-stop, scanned, stopped}
+use Rattle.laws.proofs.Many.{many-length, scan-turn, scan-stop, scanned, ended, stopped}
 use Rattle.laws.proofs.Moves.{Forward, Moves, then-moves, give-moves, import-moves, handler-moves, weaker}
 use Rattle.laws.proofs.Needed.{import-width, handled-width}
 use Rattle.laws.proofs.Parsed.{flag-not, flag-count, flag-records, flag-closing, flag-whole}
@@ -35,22 +35,12 @@ use Rattle.scan.specs.Sums.{weighed, summed}
 
 -- ---- a row that is passed over
 
-ended : {P A : Type 0} (s : Step P A) {q : P} → endOf s ≡ ends q → (x : A) × (s ≡ got x q)
-unfolding endOf
-ended (got x next) e = (x, ap (got x) (cc))
-ended (refused r) e = let z : _≡_ {A = ℕ} 0 1 = cc in absurd (omega arith)
-
 module _ {P A : Type 0} (read : Reads P A) (n : ℕ) (p : P) (h : 0 < n) where
   pub pass-turn : {next : P} → endOf (read p) ≡ ends next → endOf (many read n p) ≡ endOf (many read (n - 1) next)
   pass-turn e = scan-turn read n p h (ended (read p) e .1)
 
   pub pass-stop : {why : Refusal} → endOf (read p) ≡ stops why → endOf (many read n p) ≡ stops why
   pass-stop e = scan-stop read n p h (stopped (read p) e)
-
-pub row-ends : {P A B : Type 0} (name : A → B) (s : Step P A) {e : End P} → endOf s ≡ e → e ≡ endOf (andThen s (λ x. give (name x)))
-unfolding endOf
-row-ends name (got x next) e = sym e
-row-ends name (refused r) e = sym e
 
 -- ---- an import module
 

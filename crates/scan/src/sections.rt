@@ -24,11 +24,11 @@ use rows::groups::section_of;
 ghost use mathlib.Core.Path.{_≡_};
 ghost use Prim.Native.Nat.{_≤_};
 ghost use lib.ListN.{length};
-ghost use Rattle.format.specs.Reading.{many, tally};
+ghost use Rattle.format.specs.Reading.{many, endOf, tally};
 ghost use Rattle.format.specs.Records.{sizeLimit};
 ghost use Rattle.format.specs.Sections.{itemsAt, closing};
 ghost use Rattle.pieces.specs.View.{countRead};
-ghost use Rattle.reader.specs.View.{passRead};
+ghost use Rattle.reader.specs.View.{endRead};
 ghost use Rattle.rows.specs.Groups.{groupAt, groupWeight, flaggedAt};
 ghost use Rattle.scan.specs.Sums.{sectionRead, one, weighed, summed};
 
@@ -142,7 +142,7 @@ fn scan_groups(file: &[u8], group: Group, n: usize, c: Cursor) -> CountRead
 
 // The closing byte of a section.
 fn close(file: &[u8], section: u8, c: Cursor) -> EndRead
-    ensures { λ r. ⌜ passRead r ≡ closing (now (file .entry)) section c ⌝ }
+    ensures { λ r. ⌜ endRead r ≡ endOf (closing (now (file .entry)) section c) ⌝ }
 {
     let ByteRead::Got { value: byte, next } = read_byte(file, c) else {
         return EndRead::Refused(Refusal::Ended {

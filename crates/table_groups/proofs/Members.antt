@@ -10,7 +10,7 @@ use Rattle.format.specs.declared.refusal.Refusal.{Refusal}
 use Rattle.format.specs.Reading.{got, refused, many, ends, stops, endOf}
 use Rattle.format.specs.WellFormed.{functionCountFrom, functionFrom, importFrom, handlerFrom, caseFrom, lastFrom, casesFrom, handledFrom}
 use Rattle.laws.proofs.Groups.{Cased}
-use Rattle.laws.proofs.Many.{stopped}
+use Rattle.laws.proofs.Many.{ended, stopped}
 use Rattle.laws.proofs.Scans.{end-named, scan-renamed}
 use Rattle.rows.specs.declared.Kind.the-variants as K
 use Rattle.rows.specs.declared.Row.the-variants as R
@@ -18,7 +18,6 @@ use Rattle.rows.specs.declared.groups.Group.the-variants as G
 use Rattle.table_pieces.proofs.Tested.{there-got}
 use Rattle.table_handlers.proofs.Handlers.{handlers, few-cases}
 use Rattle.table_rows.specs.Rows.{rowFrom}
-use Rattle.table_rows.proofs.Reach.{ended}
 use Rattle.table_groups.specs.Groups.{groupFrom}
 
 module _ (file : List ℕ) (words : List ℤ) (w : ℕ) where

@@ -1,12 +1,11 @@
 -- A row of any kind lies inside the words, and the record behind it can be read where it can.
 -- Assumes nothing.
 use Prim.Native.Nat.{ℕ, _+_, _≤_}
-use mathlib.Core.Path.{_≡_, ap}
+use mathlib.Core.Path.{_≡_}
 use mathlib.Core.List.{List}
-use native.Mathlib.Omega.{arith}
 use lib.IntN.{ℤ}
 use lib.ListN.{length}
-use Rattle.format.specs.Reading.{Step, got, refused, Reads, give, Whole, ends, endOf}
+use Rattle.format.specs.Reading.{got, Reads, give, Whole}
 use Rattle.format.specs.WellFormed.{instructionFrom, typeFrom, itemFrom, exportFrom, functionFrom, caseFrom}
 use Rattle.laws.proofs.Scans.{renamed, renamed-got}
 use Rattle.laws.proofs.Whole.{whole-part}
@@ -34,9 +33,3 @@ module _ (file : List ℕ) (words : List ℤ) where
 -- a record behind a row that can be read can be read
 pub renamed-whole : {P A B : Type 0} (name : A → B) (read : Reads P A) (p : P) → Whole (renamed name read p) → Whole (read p)
 renamed-whole name read p h = whole-part (read p) (λ x. give (name x)) h
-
--- what ended was read
-pub ended : {P A : Type 0} (s : Step P A) {q : P} → endOf s ≡ ends q → (x : A) × (s ≡ got x q)
-unfolding endOf
-ended (got x p) e = (x, ap (got x) (cc))
-ended (refused r) e = let z : _≡_ {A = ℕ} 0 1 = cc in absurd (omega arith)

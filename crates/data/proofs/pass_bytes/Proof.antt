@@ -1,3 +1,4 @@
+use Rattle.format.specs.Reading.{endOf}
 use Rattle.laws.proofs.Told.{told}
 use Rattle.reader.specs.View.{spanRead}
 use borrow.Author.Needs.{needs}
@@ -5,9 +6,11 @@ use Rattle.data.proofs.pass_bytes.Statement.{statement}
 use Rattle.data.proofs.pass_bytes.Tie as tie
 
 returns : tie.Need-returns
+unfolding endOf
 returns c = rw (told spanRead (c .before .before .read-span .ensures) (c .enum-told .given .1))
 
 returns-2 : tie.Need-returns-2
+unfolding endOf
 returns-2 c = rw (told spanRead (c .before .before .before .read-span .ensures) (c .before .next .given .1))
 
 pub pass-bytes-spec : {M : Type 1} → statement M

@@ -1,6 +1,7 @@
 use mathlib.Core.Path.{_≡_, sym, _∙_}
 use native.Mathlib.Omega.{arith}
 use Rattle.format.specs.declared.module.Shape.the-variants.{Words}
+use Rattle.format.specs.Reading.{endOf}
 use Rattle.format.specs.Records.{shapeOf}
 use Rattle.laws.proofs.Values.{length-most}
 use borrow.Author.Needs.{needs}
@@ -23,6 +24,7 @@ returns-3 : tie.Need-returns-3
 returns-3 c = rw (sym (c .before .before .before .before .shape-of .ensures) ∙ c .before .before .k2 .given .1) (c .pass-words2 .ensures)
 
 returns-4 : tie.Need-returns-4
+unfolding endOf
 returns-4 c = rw (sym (c .before .before .shape-of .ensures) ∙ c .enum-told2 .given .1)
 
 pub pass-value-spec : {M : Type 1} → statement M

@@ -1,15 +1,18 @@
-use mathlib.Core.Path.{sym}
+use mathlib.Core.Path.{sym, ap}
 use native.Mathlib.Omega.{arith}
+use Rattle.format.specs.Reading.{endOf}
 use Rattle.laws.proofs.Passed.{words-whole, words-cut}
 use borrow.Author.Needs.{needs}
 use Rattle.data.proofs.pass_words.Statement.{statement}
 use Rattle.data.proofs.pass_words.Tie as tie
 
 returns : tie.Need-returns
-returns c = rw (c .before .before .whole-words .ensures) (sym (words-cut _ _ _ _ (omega arith)))
+unfolding endOf
+returns c = rw (c .before .before .whole-words .ensures) (sym (ap endOf (words-cut _ _ _ _ (omega arith))))
 
 returns-2 : tie.Need-returns-2
-returns-2 c = rw (c .past .ensures) (sym (words-whole _ _ _ _ (omega arith)))
+unfolding endOf
+returns-2 c = rw (c .past .ensures) (sym (ap endOf (words-whole _ _ _ _ (omega arith))))
 
 pub pass-words-spec : {M : Type 1} → statement M
 pass-words-spec =

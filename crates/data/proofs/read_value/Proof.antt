@@ -5,9 +5,10 @@ use mir.Facts.{toZ-ofZ}
 use Rattle.format.specs.Reading.{got}
 use Rattle.format.specs.Records.{shapeOf}
 use Rattle.format.specs.Sections.{passOver, valueAt}
+use Rattle.laws.proofs.Many.{ended, stopped}
 use Rattle.laws.proofs.Told.{told}
 use Rattle.laws.proofs.Values.{elements-fit, pass-inside}
-use Rattle.reader.specs.View.{passRead}
+use Rattle.reader.specs.View.{endRead}
 use borrow.Author.Needs.{needs}
 use Rattle.data.proofs.read_value.Statement.{statement}
 use Rattle.data.proofs.read_value.Tie as tie
@@ -15,7 +16,7 @@ use Rattle.data.proofs.read_value.Tie as tie
 passed : (c : tie.After-known-told2) →
     let a = c .before .before .before .before .before .args in
     passOver (now (a .file)) (shapeOf (a .kind)) (a .n) (a .c) ≡ got tt (c .before .next .given .0 .0)
-passed c = told passRead (c .before .before .before .pass-value .ensures) (c .before .next .given .1)
+passed c = ended _ (told endRead (c .before .before .before .pass-value .ensures) (c .before .next .given .1)) .1
 
 item-of-requires : tie.Need-item-of-requires
 item-of-requires c κs =
@@ -25,7 +26,7 @@ item-of-requires c κs =
 
 returns : tie.Need-returns
 unfolding valueAt
-returns c = rw (told passRead (c .before .before .before .pass-value .ensures) (c .before .why .given .1))
+returns c = rw (stopped _ (told endRead (c .before .before .before .pass-value .ensures) (c .before .why .given .1)))
 
 returns-2 : tie.Need-returns-2
 unfolding valueAt

@@ -3,11 +3,10 @@ use mathlib.Core.Path.{_≡_, refl, sym, _∙_}
 use native.Mathlib.Omega.{arith}
 use denote.Ref.{now}
 use Rattle.format.specs.Reading.{many, endOf}
-use Rattle.laws.proofs.Many.{scan-done, scan-turn, scan-stop, stopped}
+use Rattle.laws.proofs.Many.{scan-done, scan-turn, scan-stop, ended, stopped}
 use Rattle.laws.proofs.Told.{told}
 use Rattle.table_rows.specs.View.{endFrom}
 use Rattle.table_groups.specs.Groups.{groupFrom}
-use Rattle.table_rows.proofs.Reach.{ended}
 use borrow.Author.Needs.{needs}
 use Rattle.table_groups.proofs.check_groups.Statement.{statement}
 use Rattle.table_groups.proofs.check_groups.Tie as tie

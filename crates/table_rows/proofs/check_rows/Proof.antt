@@ -5,11 +5,11 @@ use native.Mathlib.Omega.{arith}
 use borrow.Author.Tests.{not-true, not-false}
 use denote.Ref.{now}
 use Rattle.format.specs.Reading.{got, many, endOf}
-use Rattle.laws.proofs.Many.{scan-done, scan-turn, scan-stop, stopped}
+use Rattle.laws.proofs.Many.{scan-done, scan-turn, scan-stop, ended, stopped}
 use Rattle.rows.specs.declared.Row.{Row}
 use Rattle.table_rows.specs.Rows.{rowWidth, rowFrom}
 use Rattle.table_rows.specs.View.{rowEnd}
-use Rattle.table_rows.proofs.Reach.{row-room, ended}
+use Rattle.table_rows.proofs.Reach.{row-room}
 use borrow.Author.Needs.{needs}
 use Rattle.table_rows.proofs.check_rows.Statement.{statement}
 use Rattle.table_rows.proofs.check_rows.Tie as tie

@@ -1,4 +1,4 @@
-use mathlib.Core.Path.{_≡_}
+use mathlib.Core.Path.{_≡_, _∙_}
 use native.Mathlib.Omega.{arith}
 use denote.Ref.{now}
 use Rattle.format.specs.Reading.{got, endOf}
@@ -53,7 +53,7 @@ returns-4 c =
     let k = c .before in
     let o = k .before .before .before .before in
     rw (count-is (o .before .before .before .before), offset-is o, told maybeKind (k .before .before .before .data-kind .ensures) (k .before .kind .given .1))
-    (value-ends _ _ _ _ _ (c .pass-value .result) (c .pass-value .ensures))
+    (c .pass-value .ensures ∙ value-ends _ _ _ _ _)
 
 pub skip-coded-spec : {M : Type 1} → statement M
 skip-coded-spec =

@@ -1,7 +1,7 @@
 use mathlib.Core.Path.{_≡_}
 use denote.Ref.{now}
 use borrow.Author.Tests.{ne-eqb}
-use Rattle.format.specs.Reading.{found}
+use Rattle.format.specs.Reading.{found, endOf}
 use Rattle.format.specs.Operands.{byteAt}
 use Rattle.format.specs.Sections.{closing}
 use Rattle.laws.proofs.Told.{told}
@@ -11,7 +11,7 @@ use Rattle.scan.proofs.sections.close.Statement.{statement}
 use Rattle.scan.proofs.sections.close.Tie as tie
 
 returns : tie.Need-returns
-unfolding closing
+unfolding closing endOf
 returns c = rw (told byteRead (c .before .before .read-byte .ensures) (c .enum-told .given .1))
 
 byte-is : (c : tie.After-known-told) →
@@ -21,11 +21,11 @@ byte-is : (c : tie.After-known-told) →
 byte-is c = told byteRead (c .before .before .before .read-byte .ensures) (c .before .byte .given .1)
 
 returns-2 : tie.Need-returns-2
-unfolding closing
+unfolding closing endOf
 returns-2 c = rw (byte-is (c .before), c .if1 .taken)
 
 returns-3 : tie.Need-returns-3
-unfolding closing
+unfolding closing endOf
 returns-3 c = rw (byte-is (c .before), ne-eqb _ _ (c .if1 .left))
 
 pub close-spec : {M : Type 1} → statement M

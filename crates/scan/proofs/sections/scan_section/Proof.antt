@@ -3,14 +3,16 @@ use mathlib.Core.Bool.{true}
 use native.Mathlib.Omega.{arith}
 use denote.Ref.{now}
 use borrow.Author.Tests.{not-true, not-false}
-use Rattle.format.specs.Reading.{andThen, give, many, tally}
-use Rattle.format.specs.Sections.{countIn}
+use Rattle.format.specs.declared.types.Cursor.{Cursor}
+use Rattle.format.specs.Reading.{Step, andThen, give, many, endOf, tally}
+use Rattle.format.specs.Sections.{countIn, closing}
 use Rattle.bits.proofs.Signs.{kept}
+use Rattle.laws.proofs.Many.{ended, stopped}
 use Rattle.laws.proofs.Told.{told}
 use Rattle.pieces.specs.declared.CountRead.{CountRead}
 use Rattle.pieces.specs.View.{countRead}
 use Rattle.reader.specs.declared.EndRead.{EndRead}
-use Rattle.reader.specs.View.{passRead}
+use Rattle.reader.specs.View.{endRead}
 use Rattle.rows.specs.Groups.{groupAt, groupWeight, sectionOf, flagOf, flaggedAt}
 use Rattle.scan.specs.Sums.{summed}
 use Rattle.scan.proofs.Facts.{section-not, section-count, section-groups, section-closed}
@@ -51,23 +53,29 @@ returns-3 c =
     let a = r .before .before .before .before .before .args in
     sym (section-groups _ (a .group) (a .flags) _ (on-is (r .before)) (counts-are r (g .before .before .count .given .1)) (groups-are g (c .before .why2 .given .1)))
 
+closes : (c : tie.After-close) {r : EndRead} → c .close .result ≡ r →
+    let a = c .before .before .before .before .before .before .before .before .before .before .before .before .before .args in
+    endOf (closing (now (a .file)) (sectionOf (a .group)) (c .before .before .words .given .0 .1 .0)) ≡ endRead r
+closes c q = told endRead (rw (c .before .before .before .before .before .before .before .before .before .section-of .ensures) at (c .close .ensures)) q
+
 -- the closing byte is the last thing that is asked
-closed : (c : tie.After-close) {r : EndRead} → c .close .result ≡ r →
+closed : (c : tie.After-close) (s : Step Cursor (Unit {0})) →
     let g = c .before .before .before .before in
     let a = g .before .before .before .before .before .before .before .before .before .args in
-    summed (flaggedAt (now (a .file)) (a .group) (a .flags) (a .c)) ≡ andThen (passRead r) (λ _. give (g .before .before .count .given .0 .0, c .before .before .words .given .0 .0))
-closed c {r} q =
+    closing (now (a .file)) (sectionOf (a .group)) (c .before .before .words .given .0 .1 .0) ≡ s →
+    summed (flaggedAt (now (a .file)) (a .group) (a .flags) (a .c)) ≡ andThen s (λ _. give (g .before .before .count .given .0 .0, c .before .before .words .given .0 .0))
+closed c s e =
     let g = c .before .before .before .before in
     let n = g .before .before .before .before in
     let a = n .before .before .before .before .before .args in
     section-closed _ (a .group) (a .flags) _ (on-is (n .before)) (counts-are n (g .before .before .count .given .1)) (groups-are g (c .before .before .words .given .1))
-    (passRead r) (told passRead (rw (n .before .section-of .ensures) at (c .close .ensures)) q)
+    s e
 
 returns-4 : tie.Need-returns-4
-returns-4 c = sym (closed (c .before .before .before) (c .before .why3 .given .1))
+returns-4 c = let k = c .before .before .before in sym (closed k _ (stopped _ (closes k (c .before .why3 .given .1))))
 
 returns-5 : tie.Need-returns-5
-returns-5 c = sym (closed (c .before .before .before) (c .before .next .given .1))
+returns-5 c = let k = c .before .before .before in sym (closed k _ (ended _ (closes k (c .before .next .given .1)) .1))
 
 pub scan-section-spec : {M : Type 1} → statement M
 scan-section-spec =
