@@ -8,6 +8,7 @@ use Rattle.laws.proofs.Types.{LoadAnswer, WriteAnswer}
 use Rattle.format.specs.declared.instruction.MaybeAddressMode.the-variants as MA
 use Rattle.format.specs.declared.instruction.MaybeMiddleMode.the-variants as MM
 use Rattle.format.specs.declared.module.MaybeDataKind.the-variants as MK
+use Rattle.format.specs.Words.{instructionWidth}
 use Rattle.format.specs.Records.{maybeMode, maybeMiddle, maybeKind}
 use Rattle.reader.specs.View.{byteRead, numberRead, spanRead}
 use Rattle.reader.specs.declared.ByteRead.the-variants as B
@@ -185,7 +186,7 @@ pub instruction-from-once : Once instruction-from.Learnt (λ κs r v. r)
 instruction-from-once κs a r s v w p q = one-viewed (instructionStep _) (byStep InstructionFrom-is.Got InstructionFrom-is.Bad) (instruction-kept _) r s p q
 
 pub good-instruction-once : Once good-instruction.Learnt (λ κs r v. r)
-good-instruction-once κs a r s v w p q = one-viewed (goodEnd _) byEnd (good-kept _) r s p q
+good-instruction-once κs a r s v w p q = one-viewed (goodEnd instructionWidth _) byEnd (good-kept _) r s p q
 
 pub type-from-once : Once type-from.Learnt (λ κs r v. r)
 type-from-once κs a r s v w p q = one-viewed (typeStep _) (byStep TypeFrom-is.Got TypeFrom-is.Bad) (type-kept _) r s p q

@@ -10,6 +10,7 @@ use Rattle.format.specs.declared.instruction.MaybeAddressMode.the-variants as M
 use Rattle.format.specs.declared.instruction.MaybeMiddleMode.the-variants as MM
 use Rattle.format.specs.declared.module.MaybeDataKind.the-variants as MK
 use Rattle.format.specs.Reading.{Read, found, short, Step, got, refused, End, ends, stops}
+use Rattle.format.specs.Words.{instructionWidth}
 use Rattle.format.specs.Records.{maybeMode, maybeMiddle, maybeKind}
 use Rattle.reader.specs.View.{byteRead, numberRead, spanRead}
 use Rattle.reader.specs.declared.ByteRead.{ByteRead}
@@ -90,7 +91,7 @@ byEnd (ends next) = true
 byEnd (stops why) = false
 
 module _ (w : ℕ) where
-  pub good-kept : (r : Bool) → byEnd (goodEnd w r) ≡ r
+  pub good-kept : (r : Bool) → byEnd (goodEnd instructionWidth w r) ≡ r
   good-kept true = refl
   good-kept false = refl
 

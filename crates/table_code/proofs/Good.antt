@@ -125,7 +125,7 @@ there-good words w =
     ∙ rw (opcode-says (word words w), some-only (leb (byteOf (word words w)) 175) (byteOf (word words w)))
 
 -- where it ends
-pub end-good : {A : Type 0} (w : ℕ) {t : Bool} (o : Option A) → t ≡ isSome o → goodEnd w t ≡ endOf (orBad w (w + instructionWidth) o)
+pub end-good : {A : Type 0} (w : ℕ) {t : Bool} (o : Option A) → t ≡ isSome o → goodEnd instructionWidth w t ≡ endOf (orBad w (w + instructionWidth) o)
 unfolding endOf
 end-good w (some a) e = rw e
 end-good w none e = rw e

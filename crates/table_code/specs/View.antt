@@ -31,7 +31,7 @@ someInstruction InstructionFrom-is.Bad = none
 abbrev pub instructionStep : ℕ → InstructionFrom → Step ℕ Instruction
 instructionStep w r = orBad w (w + instructionWidth) (someInstruction r)
 
--- where an instruction ends that is only found good or bad
-abbrev pub goodEnd : ℕ → Bool → End ℕ
-goodEnd w true = ends (w + instructionWidth)
-goodEnd w false = stops (NotWellFormed w)
+-- where a record of so many words ends that is only found good or bad
+abbrev pub goodEnd : ℕ → ℕ → Bool → End ℕ
+goodEnd width w true = ends (w + width)
+goodEnd width w false = stops (NotWellFormed w)

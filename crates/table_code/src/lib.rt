@@ -201,7 +201,7 @@ fn good_there(words: &[i32], w: usize) -> bool
 
 // Whether there is an instruction, which is not built.
 pub fn good_instruction(words: &[i32], w: usize) -> bool
-    ensures { λ r. ⌜ goodEnd w r ≡ endOf (instructionFrom (now (words .entry)) w) ⌝ }
+    ensures { λ r. ⌜ goodEnd instructionWidth w r ≡ endOf (instructionFrom (now (words .entry)) w) ⌝ }
 {
     if !has_room(words, INSTRUCTION_WIDTH, w) {
         return false;

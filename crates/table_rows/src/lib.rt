@@ -19,8 +19,9 @@ use table_types::TypeFrom;
 use table_types::type_from;
 ghost use mathlib.Core.Path.{_≡_};
 ghost use Rattle.format.specs.Reading.{many, endOf};
+ghost use Rattle.table_code.specs.View.{goodEnd};
 ghost use Rattle.table_rows.specs.Rows.{rowWidth, rowFrom};
-ghost use Rattle.table_rows.specs.View.{rowEnd, endFrom};
+ghost use Rattle.table_rows.specs.View.{endFrom};
 
 // Where rows end, or the first word of the first bad one.
 pub enum EndFrom {
@@ -43,7 +44,7 @@ pub fn row_width(kind: Kind) -> usize
 
 // Whether a row is good; an instruction, the most frequent one, is not built for it.
 fn good_row(file: &[u8], words: &[i32], kind: Kind, w: usize) -> bool
-    ensures { λ r. ⌜ rowEnd kind w r ≡ endOf (rowFrom (now (file .entry)) (now (words .entry)) kind w) ⌝ }
+    ensures { λ r. ⌜ goodEnd (rowWidth kind) w r ≡ endOf (rowFrom (now (file .entry)) (now (words .entry)) kind w) ⌝ }
 {
     match kind {
         Kind::Code => good_instruction(words, w),

@@ -7,8 +7,8 @@ use denote.Ref.{now}
 use Rattle.format.specs.Reading.{got, many, endOf}
 use Rattle.laws.proofs.Many.{scan-done, scan-turn, scan-stop, ended, stopped}
 use Rattle.rows.specs.declared.Row.{Row}
+use Rattle.table_code.specs.View.{goodEnd}
 use Rattle.table_rows.specs.Rows.{rowWidth, rowFrom}
-use Rattle.table_rows.specs.View.{rowEnd}
 use Rattle.table_rows.proofs.Reach.{row-room}
 use borrow.Author.Needs.{needs}
 use Rattle.table_rows.proofs.check_rows.Statement.{statement}
@@ -29,7 +29,7 @@ returns c =
     let l = g .before .before .loop in
     let a = g .before .before .before .before .before .args in
     let read = rowFrom (now (a .file)) (now (a .words)) (a .kind) in
-    sym (scan-stop read (l .left) (l .here) (g .before .loop-test .taken) (stopped (read (l .here)) (sym (g .good-row .ensures) ∙ ap (rowEnd (a .kind) (l .here)) (not-true (g .good-row .result) (c .if1 .taken))))) ∙ l .inv
+    sym (scan-stop read (l .left) (l .here) (g .before .loop-test .taken) (stopped (read (l .here)) (sym (g .good-row .ensures) ∙ ap (goodEnd (rowWidth (a .kind)) (l .here)) (not-true (g .good-row .result) (c .if1 .taken))))) ∙ l .inv
 
 -- the row that was found good
 row-is : (c : tie.Else1 Inv-loop μ-loop) →
@@ -40,7 +40,7 @@ row-is c =
     let g = c .before in
     let t = g .before .before in
     let a = t .before .before .before .args in
-    ended (rowFrom (now (a .file)) (now (a .words)) (a .kind) (t .loop .here)) (sym (g .good-row .ensures) ∙ ap (rowEnd (a .kind) (t .loop .here)) (not-false (g .good-row .result) (c .if1 .left)))
+    ended (rowFrom (now (a .file)) (now (a .words)) (a .kind) (t .loop .here)) (sym (g .good-row .ensures) ∙ ap (goodEnd (rowWidth (a .kind)) (t .loop .here)) (not-false (g .good-row .result) (c .if1 .left)))
 
 add-here : tie.Need-add-here Inv-loop μ-loop
 add-here c =

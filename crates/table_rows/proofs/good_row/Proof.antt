@@ -1,31 +1,22 @@
-use Prim.Native.Nat.{ℕ}
-use mathlib.Core.Path.{_≡_, refl, sym, _∙_}
-use mathlib.Core.Bool.{Bool, true, false}
+use mathlib.Core.Path.{sym, _∙_}
 use denote.Ref.{now}
 use Rattle.format.specs.Reading.{endOf}
 use Rattle.format.specs.WellFormed.{instructionFrom}
 use Rattle.laws.proofs.Scans.{end-named}
 use Rattle.laws.proofs.Told.{told}
-use Rattle.rows.specs.declared.Kind.the-variants as K
 use Rattle.rows.specs.declared.Row.the-variants as R
-use Rattle.table_code.specs.View.{goodEnd}
 use Rattle.table_types.specs.View.{typeStep}
 use Rattle.table_data.specs.View.{itemStep}
 use Rattle.table_names.specs.View.{exportStep, functionStep}
 use Rattle.table_handlers.specs.View.{caseStep}
-use Rattle.table_rows.specs.View.{rowEnd}
 use borrow.Author.Needs.{needs}
 use Rattle.table_rows.proofs.good_row.Statement.{statement}
 use Rattle.table_rows.proofs.good_row.Tie as tie
 
-coded-end : (w : ℕ) (good : Bool) → rowEnd K.Code w good ≡ goodEnd w good
-coded-end w true = refl
-coded-end w false = refl
-
 returns : tie.Need-returns
 returns c =
     let a = c .before .before .before .before .args in
-    rw (c .before .enum-told .given .1) (coded-end (a .w) (c .good-instruction .result) ∙ c .good-instruction .ensures ∙ sym (end-named R.Instruction (instructionFrom (now (a .words)) (a .w))))
+    rw (c .before .enum-told .given .1) (c .good-instruction .ensures ∙ sym (end-named R.Instruction (instructionFrom (now (a .words)) (a .w))))
 
 returns-2 : tie.Need-returns-2
 unfolding endOf
