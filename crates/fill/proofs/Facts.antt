@@ -29,8 +29,8 @@ use Rattle.laws.proofs.Scans.{renamed, leading-renamed, reached-renamed, flatte
 use Rattle.laws.proofs.Until.{someOf}
 use Rattle.laws.proofs.Whole.{whole-part, whole-got, whole-many, whole-first, whole-next}
 use Rattle.rows.specs.declared.Kind.the-variants as K
-use Rattle.rows.specs.declared.Row.{Row}
-use Rattle.rows.specs.declared.Row.the-variants as R
+use Rattle.rows.specs.Row.{Row}
+use Rattle.rows.specs.Row as R
 use Rattle.rows.specs.declared.groups.Group.{Group}
 use Rattle.rows.specs.declared.groups.Group.the-variants as G
 use Rattle.rows.specs.Rows.{rowAt, rowWords}
@@ -42,12 +42,12 @@ use Rattle.fill.specs.Filled.{Done, Ready, One, wordsIn, listIn}
 
 -- every row has words
 row-some : (r : Row) → 0 < length (rowWords r)
-row-some (R.Instruction i) = omega arith
-row-some (R.Type t) = omega arith
-row-some (R.Item d) = omega arith
-row-some (R.Export e) = omega arith
-row-some (R.Function f) = omega arith
-row-some (R.Case c) = omega arith
+row-some (R.instruction i) = omega arith
+row-some (R.descriptor t) = omega arith
+row-some (R.item d) = omega arith
+row-some (R.export e) = omega arith
+row-some (R.function f) = omega arith
+row-some (R.exceptionCase c) = omega arith
 
 -- a record by its name as a row
 module _ {A : Type 0} (name : A → Row) (read : Reads Cursor A) (c : Cursor) (w : ℕ) where
@@ -138,10 +138,10 @@ module _ (file : List ℕ) (c : Cursor) {n : ℕ} {d : Cursor} (counts : countIn
   unfolding importAt
   imported =
       let words : wordsIn groupWords (groupAt file G.Imports c) ≡ pos n ∷ flatten rowWords (leading (rowAt file K.Functions) n d)
-      = rw (rows-words R.Function (functionAt file) n d, counts, functions-are, many-length (functionAt file) n d functions-are) in
+      = rw (rows-words R.function (functionAt file) n d, counts, functions-are, many-length (functionAt file) n d functions-are) in
       record {
         words = words;
-        next = rw (reached-renamed R.Function (functionAt file) n d, counts, functions-are);
+        next = rw (reached-renamed R.function (functionAt file) n d, counts, functions-are);
         room = omega (arith, ready .room, ap length words);
       }
 
@@ -203,9 +203,9 @@ module _ (file : List ℕ) (c : Cursor) {h : Handler} {d : Cursor} (head : headA
   handling =
       let n = k .number - 1 in
       let t = whole-got (lastAt file (reached (caseAt file) n d)) last-whole in
-      let same = reached-renamed R.Case (caseAt file) n d in
+      let same = reached-renamed R.exceptionCase (caseAt file) n d in
       let words : wordsIn groupWords (groupAt file G.Handlers c) ≡ handlerWords h ++ (namedWords file n d ++ lastWords file n d)
-      = rw (same, rows-words R.Case (caseAt file) n d, handler-is, named-are, t .2, flatten-append caseWords (leading (caseAt file) n d) (t .0 ∷ [])) in
+      = rw (same, rows-words R.exceptionCase (caseAt file) n d, handler-is, named-are, t .2, flatten-append caseWords (leading (caseAt file) n d) (t .0 ∷ [])) in
       record {
         words = words;
         next = rw (same, handler-is, named-are, t .2);

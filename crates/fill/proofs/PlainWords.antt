@@ -17,7 +17,7 @@ use Rattle.format.specs.Records.{modeOf, middleOf}
 use Rattle.format.specs.Sections.{instructionAt}
 use Rattle.format.specs.Words.{instructionWidth, operandWords, middleWords, instructionWords}
 use Rattle.rows.specs.declared.Kind.the-variants as K
-use Rattle.rows.specs.declared.Row.the-variants as R
+use Rattle.rows.specs.Row as R
 use Rattle.rows.specs.Rows.{rowAt, rowWords}
 use Rattle.store.proofs.Facts.{four-parts}
 use Rattle.fill.specs.Filled.{One, Stored}
@@ -52,4 +52,4 @@ plain-stored file c p e h = record { stopped = rw (plain-reads file c p) e; hold
 
 pub one-plain : (file : List ℕ) (c : Cursor) (w : ℕ) (p : Plain file c) {l : List ℤ} {r : Cursor} {now : List ℤ} → Stored instructionWords (instructionAt file c) c w l r now
     → One rowWords (rowAt file K.Code) c w l (record { next = r; place = w + 9 }) now
-one-plain file c w p s = let e = plain-reads file c p in let t = rw e at s in one-stored R.Instruction (instructionAt file) c w e (t .stopped) (refl, t .holds)
+one-plain file c w p s = let e = plain-reads file c p in let t = rw e at s in one-stored R.instruction (instructionAt file) c w e (t .stopped) (refl, t .holds)

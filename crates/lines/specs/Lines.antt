@@ -12,18 +12,18 @@ use Rattle.format.specs.Records.{sizeLimit}
 use Rattle.format.specs.Content.{typeShown, itemShown, exportShown, functionShown, caseShown}
 use Rattle.format.specs.Words.{flatten}
 use Rattle.format.specs.Writing.{Part, partBytes, operand, raw, Line, codeParts, instructionLine, typeLine, itemLine, exportLine, functionLine, caseLine}
-use Rattle.rows.specs.declared.Row.{Row}
-use Rattle.rows.specs.declared.Row.the-variants as R
+use Rattle.rows.specs.Row.{Row}
+use Rattle.rows.specs.Row as R
 use Rattle.lines.specs.declared.wide.Wide.{Wide}
 use Rattle.lines.specs.declared.wide.Wide.the-variants as W
 
 abbrev pub rowLine : List ℕ → Row → Line
-rowLine file (R.Instruction i) = instructionLine i
-rowLine file (R.Type t) = typeLine (typeShown file t)
-rowLine file (R.Item d) = itemLine (itemShown file d)
-rowLine file (R.Export e) = exportLine (exportShown file e)
-rowLine file (R.Function f) = functionLine (functionShown file f)
-rowLine file (R.Case c) = caseLine (caseShown file c)
+rowLine file (R.instruction i) = instructionLine i
+rowLine file (R.descriptor t) = typeLine (typeShown file t)
+rowLine file (R.item d) = itemLine (itemShown file d)
+rowLine file (R.export e) = exportLine (exportShown file e)
+rowLine file (R.function f) = functionLine (functionShown file f)
+rowLine file (R.exceptionCase c) = caseLine (caseShown file c)
 
 abbrev pub bytesOf : List Part → List ℕ
 bytesOf ps = flatten partBytes ps

@@ -19,8 +19,8 @@ use Rattle.laws.proofs.Items.{items-many}
 use Rattle.laws.proofs.Groups.{flag-renamed}
 use Rattle.laws.proofs.Needed.{Laid, laid-more}
 use Rattle.laws.proofs.Put.{put-none, length-put}
-use Rattle.rows.specs.declared.Row.{Row}
-use Rattle.rows.specs.declared.Row.the-variants as R
+use Rattle.rows.specs.Row.{Row}
+use Rattle.rows.specs.Row as R
 use Rattle.rows.specs.declared.Kind.the-variants as K
 use Rattle.rows.specs.declared.groups.Group.the-variants as G
 use Rattle.rows.specs.Rows.{rowAt, rowWords}
@@ -58,10 +58,10 @@ row-words name one n c {xs} e =
 
 module _ {file : List ℕ} {f : Front} {m : Middle} {b : Back} (s : Surveyed file f m b) where
   pub code-words : flatten rowWords (leading (rowAt file K.Code) (f .code) (f .«at_code»)) ≡ flatten instructionWords (records s .code)
-  code-words = row-words R.Instruction (instructionAt file) (f .code) (f .«at_code») (ran-leading 2 (instructionAt file) (f .header .code) (f .«at_code») (s .front .code))
+  code-words = row-words R.instruction (instructionAt file) (f .code) (f .«at_code») (ran-leading 2 (instructionAt file) (f .header .code) (f .«at_code») (s .front .code))
 
   pub type-words : flatten rowWords (leading (rowAt file K.Types) (f .types) (f .«at_types»)) ≡ flatten typeWords (records s .types)
-  type-words = row-words R.Type (typeAt file) (f .types) (f .«at_types») (ran-leading 3 (typeAt file) (f .header .types) (f .«at_types») (s .front .types))
+  type-words = row-words R.descriptor (typeAt file) (f .types) (f .«at_types») (ran-leading 3 (typeAt file) (f .header .types) (f .«at_types») (s .front .types))
 
   items-read : leading (someOf (itemAt file) TooLarge) (m .items) (f .«at_items») ≡ records s .items
   items-read =
@@ -69,10 +69,10 @@ module _ {file : List ℕ} {f : Front} {m : Middle} {b : Back} (s : Surveyed fil
       ∙ many-leading (someOf (itemAt file) TooLarge) (length (records s .items)) (f .«at_items») (items-many file (f .«at_items») TooLarge (s .middle .items .reads) .1)
 
   pub item-words : flatten rowWords (leading (rowAt file K.Items) (m .items) (f .«at_items»)) ≡ flatten itemWords (records s .items)
-  item-words = row-words R.Item (someOf (itemAt file) TooLarge) (m .items) (f .«at_items») items-read
+  item-words = row-words R.item (someOf (itemAt file) TooLarge) (m .items) (f .«at_items») items-read
 
   pub export-words : flatten rowWords (leading (rowAt file K.Exports) (m .exports) (m .«at_exports»)) ≡ flatten exportWords (records s .exports)
-  export-words = row-words R.Export (exportAt file) (m .exports) (m .«at_exports») (ran-leading 6 (exportAt file) (f .header .exports) (m .«at_exports») (s .middle .exports))
+  export-words = row-words R.export (exportAt file) (m .exports) (m .«at_exports») (ran-leading 6 (exportAt file) (f .header .exports) (m .«at_exports») (s .middle .exports))
 
   pub imports-read : flaggedAt file G.Imports (f .header .header .flags) (m .«at_imports») ≡ got (map imports (records s .imports)) (b .«at_handlers»)
   imports-read = flag-renamed file imports (importAt file) 7 64 (f .header .header .flags) (m .«at_imports») ∙ rw (s .back .imports .reads)

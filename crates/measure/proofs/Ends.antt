@@ -14,7 +14,7 @@ use Rattle.laws.proofs.Many.{many-ind}
 use Rattle.laws.proofs.Whole.{whole-part, whole-got, whole-many}
 use Rattle.rows.specs.declared.Kind.{Kind}
 use Rattle.rows.specs.declared.Kind.the-variants as K
-use Rattle.rows.specs.declared.Row.{Row}
+use Rattle.rows.specs.Row.{Row}
 use Rattle.rows.specs.declared.groups.Group.{Group}
 use Rattle.rows.specs.declared.groups.Group.the-variants as G
 use Rattle.rows.specs.Groups.{Grouped}

@@ -19,8 +19,8 @@ use Rattle.format.specs.Writing.{Part, operand, raw, wideParts}
 use Rattle.laws.proofs.Scans.{renamed-got}
 use Rattle.rows.specs.declared.Kind.{Kind}
 use Rattle.rows.specs.declared.Kind.the-variants as K
-use Rattle.rows.specs.declared.Row.{Row}
-use Rattle.rows.specs.declared.Row.the-variants as R
+use Rattle.rows.specs.Row.{Row}
+use Rattle.rows.specs.Row as R
 use Rattle.laws.proofs.Froms.{from-got}
 use Rattle.table_pieces.proofs.Tested.{Recorded, recorded}
 use Rattle.table_code.proofs.Instructions.{instructions}
@@ -88,43 +88,43 @@ module _ (file : List ℕ) (words : List ℤ) where
 
   pub row-is : (kind : Kind) (w : ℕ) {row : Row} {q : ℕ} → rowFrom file words kind w ≡ got row q → RowIs kind w row q
   row-is K.Code w e =
-      let g = renamed-got R.Instruction (instructionFrom words) w e in
+      let g = renamed-got R.instruction (instructionFrom words) w e in
       rw (← g .2) (record { section = refl; width = refl; limit = inside-limit (instructions words) w (g .1); ends = ends-at (instructions words) w (g .1) })
   row-is K.Types w e =
-      let g = renamed-got R.Type (typeFrom file words) w e in
+      let g = renamed-got R.descriptor (typeFrom file words) w e in
       rw (← g .2) (record { section = refl; width = refl; limit = inside-limit (recorded (types file words)) w (g .1); ends = ends-at (recorded (types file words)) w (g .1) })
   row-is K.Items w e =
-      let g = renamed-got R.Item (itemFrom file words) w e in
+      let g = renamed-got R.item (itemFrom file words) w e in
       rw (← g .2) (record { section = refl; width = refl; limit = inside-limit (items file words) w (g .1); ends = ends-at (items file words) w (g .1) })
   row-is K.Exports w e =
-      let g = renamed-got R.Export (exportFrom file words) w e in
+      let g = renamed-got R.export (exportFrom file words) w e in
       rw (← g .2) (record { section = refl; width = refl; limit = inside-limit (recorded (exports file words)) w (g .1); ends = ends-at (recorded (exports file words)) w (g .1) })
   row-is K.Functions w e =
-      let g = renamed-got R.Function (functionFrom file words) w e in
+      let g = renamed-got R.function (functionFrom file words) w e in
       rw (← g .2) (record { section = refl; width = refl; limit = inside-limit (recorded (functions file words)) w (g .1); ends = ends-at (recorded (functions file words)) w (g .1) })
   row-is K.Cases w e =
-      let g = renamed-got R.Case (caseFrom file words) w e in
+      let g = renamed-got R.exceptionCase (caseFrom file words) w e in
       rw (← g .2) (record { section = refl; width = refl; limit = inside-limit (recorded (cases file words)) w (g .1); ends = ends-at (recorded (cases file words)) w (g .1) })
 
 -- the row's line
 pub line-width : (file : List ℕ) (row : Row) → 1 ≤ rowLine file row .width
-line-width file (R.Instruction i) = omega arith
-line-width file (R.Type t) = omega arith
-line-width file (R.Item d) = omega arith
-line-width file (R.Export e) = omega arith
-line-width file (R.Function f) = omega arith
-line-width file (R.Case c) = omega arith
+line-width file (R.instruction i) = omega arith
+line-width file (R.descriptor t) = omega arith
+line-width file (R.item d) = omega arith
+line-width file (R.export e) = omega arith
+line-width file (R.function f) = omega arith
+line-width file (R.exceptionCase c) = omega arith
 
 pub row-light : (file : List ℕ) → length file ≤ sizeLimit → (row : Row) → partsLen (rowLine file row .parts) ≤ 2 ^ 25
-row-light file h (R.Instruction i) = omega (arith, instruction-len i, middle-most (i .middle) refl, registers-most (i .source) refl, registers-most (i .destination) refl)
-row-light file h (R.Type t) =
+row-light file h (R.instruction i) = omega (arith, instruction-len i, middle-most (i .middle) refl, registers-most (i .source) refl, registers-most (i .destination) refl)
+row-light file h (R.descriptor t) =
     omega (arith, type-len (t .id) (t .size) (shown file (t .map)), len-most (t .id), len-most (t .size), len-most (pos (length (shown file (t .map)))), shown-most file (t .map))
-row-light file h (R.Item d) =
+row-light file h (R.item d) =
     omega (arith, item-len (d .kind) (d .offset) (d .count) (shown file (d .value)), code-most (kindNumber (d .kind)) (d .count), len-most (d .offset), shown-most file (d .value))
-row-light file h (R.Export e) =
+row-light file h (R.export e) =
     omega (arith, export-len (e .pc) (e .frame) (e .signature) (shown file (e .name)), len-most (e .pc), len-most (e .frame), shown-most file (e .name))
-row-light file h (R.Function f) = omega (arith, function-len (f .signature) (shown file (f .name)), shown-most file (f .name))
-row-light file h (R.Case c) = omega (arith, case-len (shown file (c .name)) (c .pc), len-most (c .pc), shown-most file (c .name))
+row-light file h (R.function f) = omega (arith, function-len (f .signature) (shown file (f .name)), shown-most file (f .name))
+row-light file h (R.exceptionCase c) = omega (arith, case-len (shown file (c .name)) (c .pc), len-most (c .pc), shown-most file (c .name))
 
 -- ---- a row is measured
 

@@ -21,8 +21,8 @@ use Rattle.laws.proofs.Many.{many-length}
 use Rattle.laws.proofs.Scans.{renamed, leading-renamed, reached-renamed, many-renamed, flatten-renamed}
 use Rattle.laws.proofs.Whole.{whole-part, whole-got, whole-many}
 use Rattle.rows.specs.declared.Kind.the-variants as K
-use Rattle.rows.specs.declared.Row.{Row}
-use Rattle.rows.specs.declared.Row.the-variants as R
+use Rattle.rows.specs.Row.{Row}
+use Rattle.rows.specs.Row as R
 use Rattle.rows.specs.declared.groups.Group.the-variants as G
 use Rattle.lines.specs.Lines.{rowLine}
 use Rattle.laws.proofs.Froms.{from-got}
@@ -88,16 +88,16 @@ module _ (file : List ℕ) (words : List ℤ) (w : ℕ) {count : ℕ} (counts : 
       let p = w + importWidth in
       let fs = leading (functionFrom file words) count p in
       record {
-        rows = rw (many-renamed R.Function (functionFrom file words) count p) (whole-renamed R.Function (many (functionFrom file words) count p) functions-whole);
+        rows = rw (many-renamed R.function (functionFrom file words) count p) (whole-renamed R.function (many (functionFrom file words) count p) functions-whole);
         lines = rw (
-          rows-lines file R.Function (functionFrom file words) count p,
+          rows-lines file R.function (functionFrom file words) count p,
           counts,
           functions-are,
           length-map fs (functionShown file),
           many-length (functionFrom file words) count p functions-are,
           map-map functionLine (functionShown file) fs,
         );
-        next = rw (reached-renamed R.Function (functionFrom file words) count p, counts, functions-are);
+        next = rw (reached-renamed R.function (functionFrom file words) count p, counts, functions-are);
       }
 
 -- ---- a handler
@@ -145,12 +145,12 @@ module _ (file : List ℕ) (words : List ℤ) (w : ℕ) {h : Handler} (head : ha
   handling =
       let xs = leading (caseFrom file words) n p in
       let t = whole-got (lastFrom words (reached (caseFrom file words) n p)) last-whole in
-      let same = reached-renamed R.Case (caseFrom file words) n p in
+      let same = reached-renamed R.exceptionCase (caseFrom file words) n p in
       let count : length (map (caseShown file) (xs ++ t .0 ∷ [])) - 1 ≡ n = omega (arith, length-map (xs ++ t .0 ∷ []) (caseShown file), length-append xs (t .0 ∷ []), many-length (caseFrom file words) n p named-are) in
       record {
-        rows = rw (many-renamed R.Case (caseFrom file words) n p) (whole-renamed R.Case (many (caseFrom file words) n p) named-whole);
+        rows = rw (many-renamed R.exceptionCase (caseFrom file words) n p) (whole-renamed R.exceptionCase (many (caseFrom file words) n p) named-whole);
         last = rw same last-whole;
-        lines = rw (same, rows-lines file R.Case (caseFrom file words) n p, head, named-are, t .2, count, cases-last file xs (t .0));
+        lines = rw (same, rows-lines file R.exceptionCase (caseFrom file words) n p, head, named-are, t .2, count, cases-last file xs (t .0));
         next = rw (same, head, named-are, t .2);
       }
 

@@ -14,7 +14,7 @@ use Rattle.format.specs.Records.{wordLimit}
 use Rattle.format.specs.WellFormed.{instructionFrom, typeFrom, itemFrom, exportFrom, importFrom, handledFrom}
 use Rattle.rows.specs.declared.Kind.{Kind}
 use Rattle.rows.specs.declared.Kind.the-variants as K
-use Rattle.rows.specs.declared.Row.the-variants as R
+use Rattle.rows.specs.Row as R
 use Rattle.rows.specs.declared.groups.Group.{Group}
 use Rattle.rows.specs.declared.groups.Group.the-variants as G
 use Rattle.rows.specs.Groups.{imports, handled, flagOf, sectionOf}
@@ -59,10 +59,10 @@ module _ (m : Module) (file : List ℕ) (words : List ℤ) (p : Places) (g : Goo
   sections =
       let s = g .sections in
       let n = p .counts in
-      let code = rows K.Code (n .code) 0 (omega arith) (ran-whole R.Instruction (instructionFrom words) _ _ (s .code)) (ran-reached R.Instruction (instructionFrom words) _ _ (s .code)) in
-      let types = rows K.Types (n .types) _ (code .low) (ran-whole R.Type (typeFrom file words) _ _ (s .types)) (ran-reached R.Type (typeFrom file words) _ _ (s .types)) in
-      let items = rows K.Items (n .items) _ (types .low) (ran-whole R.Item (itemFrom file words) _ _ (s .items)) (ran-reached R.Item (itemFrom file words) _ _ (s .items)) in
-      let exports = rows K.Exports (n .exports) _ (items .low) (ran-whole R.Export (exportFrom file words) _ _ (s .exports)) (ran-reached R.Export (exportFrom file words) _ _ (s .exports)) in
+      let code = rows K.Code (n .code) 0 (omega arith) (ran-whole R.instruction (instructionFrom words) _ _ (s .code)) (ran-reached R.instruction (instructionFrom words) _ _ (s .code)) in
+      let types = rows K.Types (n .types) _ (code .low) (ran-whole R.descriptor (typeFrom file words) _ _ (s .types)) (ran-reached R.descriptor (typeFrom file words) _ _ (s .types)) in
+      let items = rows K.Items (n .items) _ (types .low) (ran-whole R.item (itemFrom file words) _ _ (s .items)) (ran-reached R.item (itemFrom file words) _ _ (s .items)) in
+      let exports = rows K.Exports (n .exports) _ (items .low) (ran-whole R.export (exportFrom file words) _ _ (s .exports)) (ran-reached R.export (exportFrom file words) _ _ (s .exports)) in
       let modules = groups G.Imports (n .imports) _ (exports .low) (ran-whole imports (importFrom file words) _ _ (s .imports)) (ran-reached imports (importFrom file words) _ _ (s .imports)) in
       let handlers = groups G.Handlers (n .handlers) _ (modules .low) (ran-whole handled (handledFrom file words) _ _ (s .handlers)) (ran-reached handled (handledFrom file words) _ _ (s .handlers)) in
       record { code = code; types = types; items = items; exports = exports; imports = modules; handlers = handlers }

@@ -11,7 +11,7 @@ use Rattle.format.specs.Reading.{got, refused, Whole}
 use Rattle.format.specs.Records.{sizeLimit}
 use Rattle.laws.proofs.Whole.{whole-got, whole-first}
 use Rattle.rows.specs.declared.Kind.{Kind}
-use Rattle.rows.specs.declared.Row.{Row}
+use Rattle.rows.specs.Row.{Row}
 use Rattle.lines.specs.Lines.{rowLine, wideOf, firstWide, partsLen}
 use Rattle.table_rows.specs.Rows.{rowWidth, rowFrom}
 use Rattle.measure.specs.declared.runs.RowSize.{RowSize}

@@ -11,7 +11,7 @@ use Rattle.format.specs.Reading.{Step, got, refused, andThen, total}
 use Rattle.format.specs.Words.{flatten, caseWidth}
 use Rattle.format.specs.Content.{functionShown, handlerShown}
 use Rattle.format.specs.Writing.{operand, Line, line, lineBytes, wideFault, importLines, handlerLines, flagged}
-use Rattle.rows.specs.declared.Row.{Row}
+use Rattle.rows.specs.Row.{Row}
 use Rattle.rows.specs.declared.groups.Group.{Group}
 use Rattle.rows.specs.Groups.{Grouped, imports, handled, bitOf, sectionOf}
 use Rattle.lines.specs.Lines.{rowLine}

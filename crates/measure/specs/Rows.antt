@@ -8,7 +8,7 @@ use Rattle.format.specs.Reading.{Step, got, refused}
 use Rattle.format.specs.Writing.{Part, instructionLine}
 use Rattle.rows.specs.declared.Kind.{Kind}
 use Rattle.rows.specs.declared.Kind.the-variants as K
-use Rattle.rows.specs.declared.Row.{Row}
+use Rattle.rows.specs.Row.{Row}
 use Rattle.lines.specs.Lines.{rowLine, wideOf, firstWide, partsLen}
 use Rattle.measure.specs.declared.runs.RowSize.{RowSize}
 

@@ -11,22 +11,22 @@ use Rattle.laws.proofs.Scans.{renamed}
 use Rattle.laws.proofs.Until.{someOf}
 use Rattle.rows.specs.declared.Kind.{Kind}
 use Rattle.rows.specs.declared.Kind.the-variants as K
-use Rattle.rows.specs.declared.Row.{Row}
-use Rattle.rows.specs.declared.Row.the-variants as R
+use Rattle.rows.specs.Row.{Row}
+use Rattle.rows.specs.Row as R
 
 -- the end of the data is no item
 abbrev pub rowAt : List ℕ → Kind → Reads Cursor Row
-rowAt file K.Code = renamed R.Instruction (instructionAt file)
-rowAt file K.Types = renamed R.Type (typeAt file)
-rowAt file K.Items = renamed R.Item (someOf (itemAt file) TooLarge)
-rowAt file K.Exports = renamed R.Export (exportAt file)
-rowAt file K.Functions = renamed R.Function (functionAt file)
-rowAt file K.Cases = renamed R.Case (caseAt file)
+rowAt file K.Code = renamed R.instruction (instructionAt file)
+rowAt file K.Types = renamed R.descriptor (typeAt file)
+rowAt file K.Items = renamed R.item (someOf (itemAt file) TooLarge)
+rowAt file K.Exports = renamed R.export (exportAt file)
+rowAt file K.Functions = renamed R.function (functionAt file)
+rowAt file K.Cases = renamed R.exceptionCase (caseAt file)
 
 abbrev pub rowWords : Row → List ℤ
-rowWords (R.Instruction i) = instructionWords i
-rowWords (R.Type t) = typeWords t
-rowWords (R.Item d) = itemWords d
-rowWords (R.Export e) = exportWords e
-rowWords (R.Function f) = functionWords f
-rowWords (R.Case c) = caseWords c
+rowWords (R.instruction i) = instructionWords i
+rowWords (R.descriptor t) = typeWords t
+rowWords (R.item d) = itemWords d
+rowWords (R.export e) = exportWords e
+rowWords (R.function f) = functionWords f
+rowWords (R.exceptionCase c) = caseWords c

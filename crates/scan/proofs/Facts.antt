@@ -26,7 +26,7 @@ use Rattle.laws.proofs.Needed.{import-width, handled-width}
 use Rattle.laws.proofs.Parsed.{flag-not, flag-count, flag-records, flag-closing, flag-whole}
 use Rattle.laws.proofs.Scans.{plus, renamed-got, scan-renamed, tally-turn, tally-stop, tallied, untallied, flatten-renamed}
 use Rattle.rows.specs.declared.Kind.the-variants as K
-use Rattle.rows.specs.declared.Row.the-variants as R
+use Rattle.rows.specs.Row as R
 use Rattle.rows.specs.declared.groups.Group.{Group}
 use Rattle.rows.specs.declared.groups.Group.the-variants as G
 use Rattle.rows.specs.Rows.{rowAt}
@@ -50,12 +50,12 @@ import-weight fs e = omega (arith, import-width fs)
 module _ (file : List ℕ) (c : Cursor) {n : ℕ} {d : Cursor} (counts : countIn file 7 c ≡ got n d) where
   pub import-stops : {why : Refusal} → endOf (many (rowAt file K.Functions) n d) ≡ stops why → weighed (groupAt file G.Imports c) ≡ refused why
   unfolding importAt weighed
-  import-stops e = rw (counts, stopped (many (functionAt file) n d) (sym (scan-renamed R.Function (functionAt file) n d) ∙ e))
+  import-stops e = rw (counts, stopped (many (functionAt file) n d) (sym (scan-renamed R.function (functionAt file) n d) ∙ e))
 
   pub import-ends : {q : Cursor} → endOf (many (rowAt file K.Functions) n d) ≡ ends q → weighed (groupAt file G.Imports c) ≡ got (1 + n * 3) q
   unfolding importAt weighed
   import-ends e =
-      let all = scanned (functionAt file) n d (sym (scan-renamed R.Function (functionAt file) n d) ∙ e) in
+      let all = scanned (functionAt file) n d (sym (scan-renamed R.function (functionAt file) n d) ∙ e) in
       rw (counts, all, import-weight (leading (functionAt file) n d) (many-length (functionAt file) n d all))
 
 -- ---- a handler
@@ -68,11 +68,11 @@ module _ (file : List ℕ) (c : Cursor) {h : Handler} {d : Cursor} (head : headA
   unfolding handlerAt casesAt weighed
   handler-stops e =
       let n = k .number - 1 in
-      rw (head, k .is, stopped (many (caseAt file) n d) (sym (scan-renamed R.Case (caseAt file) n d) ∙ e))
+      rw (head, k .is, stopped (many (caseAt file) n d) (sym (scan-renamed R.exceptionCase (caseAt file) n d) ∙ e))
 
   module _ {q : Cursor} (rows : endOf (many (rowAt file K.Cases) (k .number - 1) d) ≡ ends q) where
     cases-all : many (caseAt file) (k .number - 1) d ≡ got (leading (caseAt file) (k .number - 1) d) q
-    cases-all = let n = k .number - 1 in scanned (caseAt file) n d (sym (scan-renamed R.Case (caseAt file) n d) ∙ rows)
+    cases-all = let n = k .number - 1 in scanned (caseAt file) n d (sym (scan-renamed R.exceptionCase (caseAt file) n d) ∙ rows)
 
     pub handler-short : operandAt file q ≡ short → weighed (groupAt file G.Handlers c) ≡ refused (Ended 8 (q .at))
     unfolding handlerAt casesAt lastAt weighed

@@ -15,7 +15,7 @@ use Rattle.laws.proofs.Told.{told}
 use Rattle.pieces.specs.declared.CountRead.{CountRead}
 use Rattle.pieces.specs.declared.CountRead.the-variants as CountRead-is
 use Rattle.pieces.specs.View.{countRead}
-use Rattle.rows.specs.declared.Row.{Row}
+use Rattle.rows.specs.Row.{Row}
 use Rattle.survey.specs.Survey.{oneRow, Ran}
 
 -- ---- as many rows as the header says

@@ -7,7 +7,7 @@ use Rattle.format.specs.declared.types.Cursor.{Cursor}
 use Rattle.format.specs.Reading.{Step, got, refused, front}
 use Rattle.format.specs.Words.{flatten, importWords, handledWords}
 use Rattle.format.specs.Sections.{nameIn, countedBy, headerAt, instructionAt, typeAt, itemsAt, exportAt, importAt, handlerAt, underFlag, parse}
-use Rattle.rows.specs.declared.Row.{Row}
+use Rattle.rows.specs.Row.{Row}
 use Rattle.survey.specs.declared.Front.{Front}
 use Rattle.survey.specs.declared.FrontRead.{FrontRead}
 use Rattle.survey.specs.declared.FrontRead.the-variants as FrontRead-is

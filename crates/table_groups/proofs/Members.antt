@@ -13,7 +13,7 @@ use Rattle.laws.proofs.Groups.{Cased}
 use Rattle.laws.proofs.Many.{ended, stopped}
 use Rattle.laws.proofs.Scans.{end-named, scan-renamed}
 use Rattle.rows.specs.declared.Kind.the-variants as K
-use Rattle.rows.specs.declared.Row.the-variants as R
+use Rattle.rows.specs.Row as R
 use Rattle.rows.specs.declared.groups.Group.the-variants as G
 use Rattle.table_pieces.proofs.Tested.{there-got}
 use Rattle.table_handlers.proofs.Handlers.{handlers, few-cases}
@@ -29,7 +29,7 @@ module _ (file : List ℕ) (words : List ℤ) (w : ℕ) where
 
   pub import-rows : {n q : ℕ} → functionCountFrom words w ≡ got n q → endOf (groupFrom file words G.Imports w) ≡ endOf (many (rowFrom file words K.Functions) n q)
   unfolding importFrom
-  import-rows {n} {q} e = rw e (end-named _ (many (functionFrom file words) n q) ∙ sym (scan-renamed R.Function (functionFrom file words) n q))
+  import-rows {n} {q} e = rw e (end-named _ (many (functionFrom file words) n q) ∙ sym (scan-renamed R.function (functionFrom file words) n q))
 
   -- ---- a handler
 
@@ -46,11 +46,11 @@ module _ (file : List ℕ) (words : List ℤ) (w : ℕ) where
       unfolding handledFrom casesFrom endOf
       cases-stop e =
           let n = k .number - 1 in
-          rw (head, k .is, stopped (many (caseFrom file words) n d) (sym (scan-renamed R.Case (caseFrom file words) n d) ∙ e))
+          rw (head, k .is, stopped (many (caseFrom file words) n d) (sym (scan-renamed R.exceptionCase (caseFrom file words) n d) ∙ e))
 
       module _ {q : ℕ} (rows : endOf (many (rowFrom file words K.Cases) (k .number - 1) d) ≡ ends q) where
         cases-all : (cs : List ExceptionCase) × (many (caseFrom file words) (k .number - 1) d ≡ got cs q)
-        cases-all = let n = k .number - 1 in ended (many (caseFrom file words) n d) (sym (scan-renamed R.Case (caseFrom file words) n d) ∙ rows)
+        cases-all = let n = k .number - 1 in ended (many (caseFrom file words) n d) (sym (scan-renamed R.exceptionCase (caseFrom file words) n d) ∙ rows)
 
         pub last-bad : {why : Refusal} → lastFrom words q ≡ refused why → endOf (groupFrom file words G.Handlers w) ≡ stops why
         unfolding handledFrom casesFrom endOf

@@ -11,8 +11,8 @@ use Rattle.laws.proofs.Scans.{renamed, renamed-got}
 use Rattle.laws.proofs.Whole.{whole-part}
 use Rattle.rows.specs.declared.Kind.{Kind}
 use Rattle.rows.specs.declared.Kind.the-variants as K
-use Rattle.rows.specs.declared.Row.{Row}
-use Rattle.rows.specs.declared.Row.the-variants as R
+use Rattle.rows.specs.Row.{Row}
+use Rattle.rows.specs.Row as R
 use Rattle.table_pieces.proofs.Tested.{recorded, read-room}
 use Rattle.table_code.proofs.Instructions.{instructions}
 use Rattle.table_types.proofs.Types.{types}
@@ -23,12 +23,12 @@ use Rattle.table_rows.specs.Rows.{rowWidth, rowFrom}
 
 module _ (file : List ℕ) (words : List ℤ) where
   pub row-room : (kind : Kind) (w : ℕ) {r : Row} {q : ℕ} → rowFrom file words kind w ≡ got r q → w + rowWidth kind ≤ length words
-  row-room K.Code w e = read-room (instructions words) w (renamed-got R.Instruction (instructionFrom words) w e .1)
-  row-room K.Types w e = read-room (recorded (types file words)) w (renamed-got R.Type (typeFrom file words) w e .1)
-  row-room K.Items w e = read-room (items file words) w (renamed-got R.Item (itemFrom file words) w e .1)
-  row-room K.Exports w e = read-room (recorded (exports file words)) w (renamed-got R.Export (exportFrom file words) w e .1)
-  row-room K.Functions w e = read-room (recorded (functions file words)) w (renamed-got R.Function (functionFrom file words) w e .1)
-  row-room K.Cases w e = read-room (recorded (cases file words)) w (renamed-got R.Case (caseFrom file words) w e .1)
+  row-room K.Code w e = read-room (instructions words) w (renamed-got R.instruction (instructionFrom words) w e .1)
+  row-room K.Types w e = read-room (recorded (types file words)) w (renamed-got R.descriptor (typeFrom file words) w e .1)
+  row-room K.Items w e = read-room (items file words) w (renamed-got R.item (itemFrom file words) w e .1)
+  row-room K.Exports w e = read-room (recorded (exports file words)) w (renamed-got R.export (exportFrom file words) w e .1)
+  row-room K.Functions w e = read-room (recorded (functions file words)) w (renamed-got R.function (functionFrom file words) w e .1)
+  row-room K.Cases w e = read-room (recorded (cases file words)) w (renamed-got R.exceptionCase (caseFrom file words) w e .1)
 
 -- a record behind a row that can be read can be read
 pub renamed-whole : {P A B : Type 0} (name : A → B) (read : Reads P A) (p : P) → Whole (renamed name read p) → Whole (read p)

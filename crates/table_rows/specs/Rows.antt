@@ -8,8 +8,8 @@ use Rattle.format.specs.WellFormed.{instructionFrom, typeFrom, itemFrom, export
 use Rattle.laws.proofs.Scans.{renamed}
 use Rattle.rows.specs.declared.Kind.{Kind}
 use Rattle.rows.specs.declared.Kind.the-variants as K
-use Rattle.rows.specs.declared.Row.{Row}
-use Rattle.rows.specs.declared.Row.the-variants as R
+use Rattle.rows.specs.Row.{Row}
+use Rattle.rows.specs.Row as R
 
 abbrev pub rowWidth : Kind → ℕ
 rowWidth K.Code = instructionWidth
@@ -20,9 +20,9 @@ rowWidth K.Functions = functionWidth
 rowWidth K.Cases = caseWidth
 
 abbrev pub rowFrom : List ℕ → List ℤ → Kind → Reads ℕ Row
-rowFrom file words K.Code = renamed R.Instruction (instructionFrom words)
-rowFrom file words K.Types = renamed R.Type (typeFrom file words)
-rowFrom file words K.Items = renamed R.Item (itemFrom file words)
-rowFrom file words K.Exports = renamed R.Export (exportFrom file words)
-rowFrom file words K.Functions = renamed R.Function (functionFrom file words)
-rowFrom file words K.Cases = renamed R.Case (caseFrom file words)
+rowFrom file words K.Code = renamed R.instruction (instructionFrom words)
+rowFrom file words K.Types = renamed R.descriptor (typeFrom file words)
+rowFrom file words K.Items = renamed R.item (itemFrom file words)
+rowFrom file words K.Exports = renamed R.export (exportFrom file words)
+rowFrom file words K.Functions = renamed R.function (functionFrom file words)
+rowFrom file words K.Cases = renamed R.exceptionCase (caseFrom file words)

@@ -25,7 +25,7 @@ use Rattle.format.specs.Content.{Content, contentOf, typeShown, itemShown, expo
 use Rattle.format.specs.Writing.{Part, operand, raw, partBytes, Line, lineBytes, instructionLine, typeLine, itemLine, exportLine, importLines, handlerLines, flagged, layout, encode, wideFault, flagFault, bytesOf as writtenBytes, written, writeOf}
 use Rattle.laws.proofs.Many.{All, many-length}
 use Rattle.laws.proofs.Scans.{leading-renamed, flatten-renamed}
-use Rattle.rows.specs.declared.Row.the-variants as R
+use Rattle.rows.specs.Row as R
 use Rattle.rows.specs.declared.groups.Group.{Group}
 use Rattle.rows.specs.declared.groups.Group.the-variants as G
 use Rattle.rows.specs.Groups.{imports, handled, flagOf}
@@ -125,10 +125,10 @@ lines-are m file words p =
     let modules = leading (importFrom file words) (n .imports) (p .«at_imports») in
     let handlers = leading (handledFrom file words) (n .handlers) (p .«at_handlers») in
     rw (
-      rows-lines file R.Instruction (instructionFrom words) (n .code) 0,
-      rows-lines file R.Type (typeFrom file words) (n .types) (p .«at_types»),
-      rows-lines file R.Item (itemFrom file words) (n .items) (p .«at_items»),
-      rows-lines file R.Export (exportFrom file words) (n .exports) (p .«at_exports»),
+      rows-lines file R.instruction (instructionFrom words) (n .code) 0,
+      rows-lines file R.descriptor (typeFrom file words) (n .types) (p .«at_types»),
+      rows-lines file R.item (itemFrom file words) (n .items) (p .«at_items»),
+      rows-lines file R.export (exportFrom file words) (n .exports) (p .«at_exports»),
       leading-renamed imports (importFrom file words) (n .imports) (p .«at_imports»),
       leading-renamed handled (handledFrom file words) (n .handlers) (p .«at_handlers»),
       flagged-renamed imports 64 (m .header .flags) 7 (groupLines file) modules,

@@ -14,7 +14,7 @@ use Rattle.laws.proofs.Scans.{reached-done, reached-turn}
 use Rattle.laws.proofs.Whole.{whole-first, whole-next}
 use Rattle.rows.specs.declared.Kind.{Kind}
 use Rattle.rows.specs.declared.Kind.the-variants as K
-use Rattle.rows.specs.declared.Row.the-variants as R
+use Rattle.rows.specs.Row as R
 use lib.IntN.{ℤ}
 use lib.ListN.{length, length-append}
 use Rattle.laws.proofs.Put.{length-put}
@@ -155,9 +155,9 @@ module _ (file : List ℕ) (words : List ℤ) where
   codeRun n w = run (rowLines file) (rowFrom file words K.Code) n w
 
   code-whole : (w : ℕ) → Whole (rowFrom file words K.Code w) → Coded words w
-  code-whole w h = coded words w (renamed-whole R.Instruction (instructionFrom words) w h)
+  code-whole w h = coded words w (renamed-whole R.instruction (instructionFrom words) w h)
 
-  code-read : (w : ℕ) (k : Coded words w) → rowFrom file words K.Code w ≡ got (R.Instruction (k .instruction)) (w + 9)
+  code-read : (w : ℕ) (k : Coded words w) → rowFrom file words K.Code w ≡ got (R.instruction (k .instruction)) (w + 9)
   code-read w k = rw (k .read)
 
   code-long : (n w : ℕ) → 0 < n → (k : Coded words w) → length (bytesOf (codeRun n w)) ≡ length (bytesOf (instructionLine (k .instruction) .parts)) + length (bytesOf (codeRun (n - 1) (w + 9)))
@@ -188,10 +188,10 @@ module _ (file : List ℕ) (words : List ℤ) {n w at : ℕ} {l₀ : List ℕ} {
   pub here-coded : Coded words here
   here-coded = code-whole file words here (row-whole file words K.Code y some-more)
 
-  here-read : rowFrom file words K.Code here ≡ got (R.Instruction (here-coded .instruction)) (here + 9)
+  here-read : rowFrom file words K.Code here ≡ got (R.instruction (here-coded .instruction)) (here + 9)
   here-read = code-read file words here here-coded
 
-  parts-here : partsOf (rowLines file (R.Instruction (here-coded .instruction))) ≡ partsThere words here
+  parts-here : partsOf (rowLines file (R.instruction (here-coded .instruction))) ≡ partsThere words here
   parts-here = single (instructionLine (here-coded .instruction)) ∙ sym (here-coded .there .parts)
 
   pub here-ready : Ready (partsThere words here) place l

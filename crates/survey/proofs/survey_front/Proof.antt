@@ -6,7 +6,7 @@ use Rattle.laws.proofs.Parsed.{parse-header, parse-code, parse-types}
 use Rattle.laws.proofs.Told.{told}
 use Rattle.header.specs.declared.HeaderRead.{HeaderRead}
 use Rattle.header.specs.View.{headerRead}
-use Rattle.rows.specs.declared.Row.the-variants as R
+use Rattle.rows.specs.Row as R
 use Rattle.survey.specs.Survey.{Ran}
 use Rattle.survey.proofs.Facts.{rows-ran, rows-refused}
 use borrow.Author.Needs.{needs}
@@ -27,20 +27,20 @@ header-got c = header-is (c .before .before .before) (c .before .header .given .
 returns-2 : tie.Need-returns-2
 returns-2 c =
     let r = c .before .before .before in
-    parse-code _ _ (header-got (r .before .before .before)) (rows-refused R.Instruction (instructionAt _) 2 _ _ (r .scan-counted .ensures) (c .before .why2 .given .1))
+    parse-code _ _ (header-got (r .before .before .before)) (rows-refused R.instruction (instructionAt _) 2 _ _ (r .scan-counted .ensures) (c .before .why2 .given .1))
 
 code-ran : (c : tie.After-known-told4) →
     let h = c .before .before .before .before .before .before in
     let p = h .before .header .given .0 in
     let n = c .before .code .given .0 in
     Ran (countedBy 2 (instructionAt (now (h .before .before .before .before .before .before .args .file))) (p .0 .code) (p .1 .0)) (n .0) (n .1 .0)
-code-ran c = rows-ran R.Instruction (instructionAt _) 2 _ _ (c .before .before .before .scan-counted .ensures) (c .before .code .given .1)
+code-ran c = rows-ran R.instruction (instructionAt _) 2 _ _ (c .before .before .before .scan-counted .ensures) (c .before .code .given .1)
 
 returns-3 : tie.Need-returns-3
 returns-3 c =
     let r = c .before .before .before in
     let h = r .before .before .before .before .before .before .before in
-    parse-types _ _ (header-got h) (code-ran (r .before) .reads) (rows-refused R.Type (typeAt _) 3 _ _ (r .scan-counted2 .ensures) (c .before .why3 .given .1))
+    parse-types _ _ (header-got h) (code-ran (r .before) .reads) (rows-refused R.descriptor (typeAt _) 3 _ _ (r .scan-counted2 .ensures) (c .before .why3 .given .1))
 
 returns-4 : tie.Need-returns-4
 returns-4 c =
@@ -48,7 +48,7 @@ returns-4 c =
     record {
       header = header-got (r .before .before .before .before .before .before .before);
       code = code-ran (r .before);
-      types = rows-ran R.Type (typeAt _) 3 _ _ (r .scan-counted2 .ensures) (c .before .types .given .1);
+      types = rows-ran R.descriptor (typeAt _) 3 _ _ (r .scan-counted2 .ensures) (c .before .types .given .1);
     }
 
 pub survey-front-spec : {M : Type 1} → statement M

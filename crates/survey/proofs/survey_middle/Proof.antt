@@ -6,7 +6,7 @@ use Rattle.laws.proofs.Parsed.{parse-items, parse-name, parse-exports}
 use Rattle.laws.proofs.Scans.{untallied}
 use Rattle.laws.proofs.Told.{told}
 use Rattle.pieces.specs.View.{countRead, spanStep}
-use Rattle.rows.specs.declared.Row.the-variants as R
+use Rattle.rows.specs.Row as R
 use Rattle.scan.specs.Sums.{one}
 use Rattle.survey.specs.Survey.{Ran}
 use Rattle.survey.proofs.Facts.{ran, rows-ran, rows-refused}
@@ -44,7 +44,7 @@ returns-3 c =
     let i = r .before .before .before .before .before in
     let f = i .before .before .before .before .before .before .before .before .pre .1 in
     parse-exports _ _ (f .header) (f .code .reads) (f .types .reads) (items-ran i .reads) (name-is (r .before))
-    (rows-refused R.Export (exportAt _) 6 _ _ (r .scan-counted .ensures) (c .before .why3 .given .1))
+    (rows-refused R.export (exportAt _) 6 _ _ (r .scan-counted .ensures) (c .before .why3 .given .1))
 
 returns-4 : tie.Need-returns-4
 returns-4 c =
@@ -54,7 +54,7 @@ returns-4 c =
       «at_name» = i .before .items .given .0 .1 .0;
       items = items-ran i;
       name = name-is (r .before);
-      exports = rows-ran R.Export (exportAt _) 6 _ _ (r .scan-counted .ensures) (c .before .exports .given .1);
+      exports = rows-ran R.export (exportAt _) 6 _ _ (r .scan-counted .ensures) (c .before .exports .given .1);
     }
 
 pub survey-middle-spec : {M : Type 1} → statement M

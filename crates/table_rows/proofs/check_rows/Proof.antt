@@ -6,7 +6,7 @@ use borrow.Author.Tests.{not-true, not-false}
 use denote.Ref.{now}
 use Rattle.format.specs.Reading.{got, many, endOf}
 use Rattle.laws.proofs.Many.{scan-done, scan-turn, scan-stop, ended, stopped}
-use Rattle.rows.specs.declared.Row.{Row}
+use Rattle.rows.specs.Row.{Row}
 use Rattle.table_code.specs.View.{goodEnd}
 use Rattle.table_rows.specs.Rows.{rowWidth, rowFrom}
 use Rattle.table_rows.proofs.Reach.{row-room}

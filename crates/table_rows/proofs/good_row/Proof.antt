@@ -4,7 +4,7 @@ use Rattle.format.specs.Reading.{endOf}
 use Rattle.format.specs.WellFormed.{instructionFrom}
 use Rattle.laws.proofs.Scans.{end-named}
 use Rattle.laws.proofs.Told.{told}
-use Rattle.rows.specs.declared.Row.the-variants as R
+use Rattle.rows.specs.Row as R
 use Rattle.table_types.specs.View.{typeStep}
 use Rattle.table_data.specs.View.{itemStep}
 use Rattle.table_names.specs.View.{exportStep, functionStep}
@@ -16,7 +16,7 @@ use Rattle.table_rows.proofs.good_row.Tie as tie
 returns : tie.Need-returns
 returns c =
     let a = c .before .before .before .before .args in
-    rw (c .before .enum-told .given .1) (c .good-instruction .ensures ∙ sym (end-named R.Instruction (instructionFrom (now (a .words)) (a .w))))
+    rw (c .before .enum-told .given .1) (c .good-instruction .ensures ∙ sym (end-named R.instruction (instructionFrom (now (a .words)) (a .w))))
 
 returns-2 : tie.Need-returns-2
 unfolding endOf

@@ -1,7 +1,7 @@
 use mathlib.Core.Path.{refl}
 use denote.Ref.{now}
 use Rattle.format.specs.WellFormed.{exportFrom, importFrom, handledFrom}
-use Rattle.rows.specs.declared.Row.the-variants as R
+use Rattle.rows.specs.Row as R
 use Rattle.rows.specs.Groups.{imports, handled}
 use Rattle.tables.specs.Laid.{Ran}
 use Rattle.tables.proofs.Stages.{all-ran, one-bad, exports-bad, imports-bad, handlers-bad}
@@ -15,7 +15,7 @@ returns c m =
     let s = r .before .before in
     let a = s .args in
     exports-bad (now (a .file)) (now (a .words)) (a .counts) m (s .pre)
-    (one-bad R.Export (exportFrom (now (a .file)) (now (a .words))) (a .counts .exports) (a .front .«at_exports») (r .check-rows .ensures) (c .before .place .given .1))
+    (one-bad R.export (exportFrom (now (a .file)) (now (a .words))) (a .counts .exports) (a .front .«at_exports») (r .check-rows .ensures) (c .before .place .given .1))
 
 exports-ran : (c : tie.After-at-imports) →
     let a = c .before .before .before .before .args in
@@ -23,7 +23,7 @@ exports-ran : (c : tie.After-at-imports) →
 exports-ran c =
     let r = c .before .before in
     let a = r .before .before .args in
-    all-ran R.Export (exportFrom (now (a .file)) (now (a .words))) (a .counts .exports) (a .front .«at_exports») (r .check-rows .ensures) (c .at-imports .given .1)
+    all-ran R.export (exportFrom (now (a .file)) (now (a .words))) (a .counts .exports) (a .front .«at_exports») (r .check-rows .ensures) (c .at-imports .given .1)
 
 returns-2 : tie.Need-returns-2
 returns-2 c m =

@@ -1,6 +1,6 @@
 use denote.Ref.{now}
 use Rattle.format.specs.WellFormed.{instructionFrom, typeFrom, itemFrom}
-use Rattle.rows.specs.declared.Row.the-variants as R
+use Rattle.rows.specs.Row as R
 use Rattle.tables.specs.Laid.{Ran}
 use Rattle.tables.proofs.Stages.{all-ran, one-bad, code-bad, types-bad, items-bad}
 use borrow.Author.Needs.{needs}
@@ -11,7 +11,7 @@ returns : tie.Need-returns
 returns c m =
     let r = c .before .before .before in
     let a = r .before .before .args in
-    code-bad (now (a .file)) (now (a .words)) (a .counts) m (one-bad R.Instruction (instructionFrom (now (a .words))) (a .counts .code) 0 (r .check-rows .ensures) (c .before .place .given .1))
+    code-bad (now (a .file)) (now (a .words)) (a .counts) m (one-bad R.instruction (instructionFrom (now (a .words))) (a .counts .code) 0 (r .check-rows .ensures) (c .before .place .given .1))
 
 code-ran : (c : tie.After-at-types) →
     let a = c .before .before .before .before .args in
@@ -19,7 +19,7 @@ code-ran : (c : tie.After-at-types) →
 code-ran c =
     let r = c .before .before in
     let a = r .before .before .args in
-    all-ran R.Instruction (instructionFrom (now (a .words))) (a .counts .code) 0 (r .check-rows .ensures) (c .at-types .given .1)
+    all-ran R.instruction (instructionFrom (now (a .words))) (a .counts .code) 0 (r .check-rows .ensures) (c .at-types .given .1)
 
 returns-2 : tie.Need-returns-2
 returns-2 c m =
@@ -27,7 +27,7 @@ returns-2 c m =
     let t = r .before .before in
     let a = t .before .before .before .before .args in
     types-bad (now (a .file)) (now (a .words)) (a .counts) m (code-ran t)
-    (one-bad R.Type (typeFrom (now (a .file)) (now (a .words))) (a .counts .types) (t .at-types .given .0 .0) (r .check-rows2 .ensures) (c .before .place2 .given .1))
+    (one-bad R.descriptor (typeFrom (now (a .file)) (now (a .words))) (a .counts .types) (t .at-types .given .0 .0) (r .check-rows2 .ensures) (c .before .place2 .given .1))
 
 types-ran : (c : tie.After-at-items) →
     let t = c .before .before .before .before in
@@ -37,7 +37,7 @@ types-ran c =
     let r = c .before .before in
     let t = r .before .before in
     let a = t .before .before .before .before .args in
-    all-ran R.Type (typeFrom (now (a .file)) (now (a .words))) (a .counts .types) (t .at-types .given .0 .0) (r .check-rows2 .ensures) (c .at-items .given .1)
+    all-ran R.descriptor (typeFrom (now (a .file)) (now (a .words))) (a .counts .types) (t .at-types .given .0 .0) (r .check-rows2 .ensures) (c .at-items .given .1)
 
 returns-3 : tie.Need-returns-3
 returns-3 c m =
@@ -46,7 +46,7 @@ returns-3 c m =
     let t = i .before .before .before .before in
     let a = t .before .before .before .before .args in
     items-bad (now (a .file)) (now (a .words)) (a .counts) m (code-ran t) (types-ran i)
-    (one-bad R.Item (itemFrom (now (a .file)) (now (a .words))) (a .counts .items) (i .at-items .given .0 .0) (r .check-rows3 .ensures) (c .before .place3 .given .1))
+    (one-bad R.item (itemFrom (now (a .file)) (now (a .words))) (a .counts .items) (i .at-items .given .0 .0) (r .check-rows3 .ensures) (c .before .place3 .given .1))
 
 returns-4 : tie.Need-returns-4
 returns-4 c =
@@ -57,7 +57,7 @@ returns-4 c =
     record {
       code = code-ran t;
       types = types-ran i;
-      items = all-ran R.Item (itemFrom (now (a .file)) (now (a .words))) (a .counts .items) (i .at-items .given .0 .0) (r .check-rows3 .ensures) (c .before .at-exports .given .1);
+      items = all-ran R.item (itemFrom (now (a .file)) (now (a .words))) (a .counts .items) (i .at-items .given .0 .0) (r .check-rows3 .ensures) (c .before .at-exports .given .1);
     }
 
 pub check-front-spec : {M : Type 1} → statement M

@@ -5,7 +5,7 @@ use Rattle.code.proofs.PlainLaws.{Plain, plain-is, plain-reads}
 use Rattle.format.specs.Reading.{got}
 use Rattle.format.specs.Sections.{instructionAt}
 use Rattle.laws.proofs.Told.{told}
-use Rattle.rows.specs.declared.Row.the-variants as R
+use Rattle.rows.specs.Row as R
 use Rattle.fill.proofs.Facts.{one-room, one-stored, one-refused}
 use Rattle.fill.proofs.PlainWords.{one-plain}
 use borrow.Author.Needs.{needs}
@@ -20,7 +20,7 @@ put-plain-requires c κs =
     let t = c .before in
     let b = t .before .before .before in
     let file = now (b .args .file) in
-    (sym (t .before .is-plain .ensures) ∙ t .if1 .taken, one-room R.Instruction (instructionAt file) (b .args .c) (b .args .w) (plain-reads file (b .args .c) (is-here t)) (b .pre))
+    (sym (t .before .is-plain .ensures) ∙ t .if1 .taken, one-room R.instruction (instructionAt file) (b .args .c) (b .args .w) (plain-reads file (b .args .c) (is-here t)) (b .pre))
 
 returns : tie.Need-returns
 returns c = let t = c .before .before .before in let a = t .before .before .before .args in one-plain (now (a .file)) (a .c) (a .w) (is-here t) (c .before .put-plain .ensures)
@@ -35,17 +35,17 @@ put-instruction-requires : tie.Need-put-instruction-requires
 put-instruction-requires c κs =
     let i = c .before .before in
     let b = i .before .before .before .before .before .before in
-    one-room R.Instruction (instructionAt (now (b .args .file))) (b .args .c) (b .args .w) (read-is i) (b .pre)
+    one-room R.instruction (instructionAt (now (b .args .file))) (b .args .c) (b .args .w) (read-is i) (b .pre)
 
 returns-2 : tie.Need-returns-2
-returns-2 c = let a = c .before .before .before .before .before .before .args in one-refused R.Instruction (instructionAt (now (a .file))) (a .c) (a .w) (now (a .words)) (told instructionRead (c .before .before .read-instruction .ensures) (c .enum-told .given .1))
+returns-2 c = let a = c .before .before .before .before .before .before .args in one-refused R.instruction (instructionAt (now (a .file))) (a .c) (a .w) (now (a .words)) (told instructionRead (c .before .before .read-instruction .ensures) (c .enum-told .given .1))
 
 returns-3 : tie.Need-returns-3
 returns-3 c =
     let p = c .before in
     let i = p .before .before .before in
     let a = i .before .before .before .before .before .before .args in
-    one-stored R.Instruction (instructionAt (now (a .file))) (a .c) (a .w) (read-is i) refl (p .put-instruction .ensures)
+    one-stored R.instruction (instructionAt (now (a .file))) (a .c) (a .w) (read-is i) refl (p .put-instruction .ensures)
 
 pub fill-instruction-spec : {M : Type 1} → statement M
 fill-instruction-spec =

@@ -4,7 +4,7 @@ use Rattle.format.specs.Reading.{got}
 use Rattle.format.specs.Sections.{caseAt}
 use Rattle.laws.proofs.Told.{told}
 use Rattle.handlers.specs.View.{caseRead}
-use Rattle.rows.specs.declared.Row.the-variants as R
+use Rattle.rows.specs.Row as R
 use Rattle.fill.proofs.Facts.{one-room, one-stored, one-refused}
 use borrow.Author.Needs.{needs}
 use Rattle.fill.proofs.records.fill_case.Statement.{statement}
@@ -19,19 +19,19 @@ put-case-requires : tie.Need-put-case-requires
 put-case-requires c κs =
     let i = c .before .before in
     let b = i .before .before .before .before in
-    one-room R.Case (caseAt (now (b .args .file))) (b .args .c) (b .args .w) (read-is i) (b .pre .1)
+    one-room R.exceptionCase (caseAt (now (b .args .file))) (b .args .c) (b .args .w) (read-is i) (b .pre .1)
 
 returns : tie.Need-returns
 returns c =
     let a = c .before .before .before .before .args in
-    one-refused R.Case (caseAt (now (a .file))) (a .c) (a .w) (now (a .words)) (told caseRead (c .before .before .read-case .ensures) (c .enum-told .given .1))
+    one-refused R.exceptionCase (caseAt (now (a .file))) (a .c) (a .w) (now (a .words)) (told caseRead (c .before .before .read-case .ensures) (c .enum-told .given .1))
 
 returns-2 : tie.Need-returns-2
 returns-2 c =
     let p = c .before in
     let i = p .before .before .before in
     let a = i .before .before .before .before .args in
-    one-stored R.Case (caseAt (now (a .file))) (a .c) (a .w) (read-is i) refl (p .put-case .ensures)
+    one-stored R.exceptionCase (caseAt (now (a .file))) (a .c) (a .w) (read-is i) refl (p .put-case .ensures)
 
 pub fill-case-spec : {M : Type 1} → statement M
 fill-case-spec =

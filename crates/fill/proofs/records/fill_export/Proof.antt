@@ -4,7 +4,7 @@ use Rattle.format.specs.Reading.{got}
 use Rattle.format.specs.Sections.{exportAt}
 use Rattle.laws.proofs.Told.{told}
 use Rattle.names.specs.View.{exportRead}
-use Rattle.rows.specs.declared.Row.the-variants as R
+use Rattle.rows.specs.Row as R
 use Rattle.fill.proofs.Facts.{one-room, one-stored, one-refused}
 use borrow.Author.Needs.{needs}
 use Rattle.fill.proofs.records.fill_export.Statement.{statement}
@@ -19,19 +19,19 @@ put-export-requires : tie.Need-put-export-requires
 put-export-requires c κs =
     let i = c .before .before in
     let b = i .before .before .before .before in
-    one-room R.Export (exportAt (now (b .args .file))) (b .args .c) (b .args .w) (read-is i) (b .pre .1)
+    one-room R.export (exportAt (now (b .args .file))) (b .args .c) (b .args .w) (read-is i) (b .pre .1)
 
 returns : tie.Need-returns
 returns c =
     let a = c .before .before .before .before .args in
-    one-refused R.Export (exportAt (now (a .file))) (a .c) (a .w) (now (a .words)) (told exportRead (c .before .before .read-export .ensures) (c .enum-told .given .1))
+    one-refused R.export (exportAt (now (a .file))) (a .c) (a .w) (now (a .words)) (told exportRead (c .before .before .read-export .ensures) (c .enum-told .given .1))
 
 returns-2 : tie.Need-returns-2
 returns-2 c =
     let p = c .before in
     let i = p .before .before .before in
     let a = i .before .before .before .before .args in
-    one-stored R.Export (exportAt (now (a .file))) (a .c) (a .w) (read-is i) refl (p .put-export .ensures)
+    one-stored R.export (exportAt (now (a .file))) (a .c) (a .w) (read-is i) refl (p .put-export .ensures)
 
 pub fill-export-spec : {M : Type 1} → statement M
 fill-export-spec =

@@ -4,7 +4,7 @@ use Rattle.format.specs.Reading.{got}
 use Rattle.format.specs.Sections.{functionAt}
 use Rattle.laws.proofs.Told.{told}
 use Rattle.names.specs.View.{functionRead}
-use Rattle.rows.specs.declared.Row.the-variants as R
+use Rattle.rows.specs.Row as R
 use Rattle.fill.proofs.Facts.{one-room, one-stored, one-refused}
 use borrow.Author.Needs.{needs}
 use Rattle.fill.proofs.records.fill_function.Statement.{statement}
@@ -19,19 +19,19 @@ put-function-requires : tie.Need-put-function-requires
 put-function-requires c κs =
     let i = c .before .before in
     let b = i .before .before .before .before in
-    one-room R.Function (functionAt (now (b .args .file))) (b .args .c) (b .args .w) (read-is i) (b .pre .1)
+    one-room R.function (functionAt (now (b .args .file))) (b .args .c) (b .args .w) (read-is i) (b .pre .1)
 
 returns : tie.Need-returns
 returns c =
     let a = c .before .before .before .before .args in
-    one-refused R.Function (functionAt (now (a .file))) (a .c) (a .w) (now (a .words)) (told functionRead (c .before .before .read-function .ensures) (c .enum-told .given .1))
+    one-refused R.function (functionAt (now (a .file))) (a .c) (a .w) (now (a .words)) (told functionRead (c .before .before .read-function .ensures) (c .enum-told .given .1))
 
 returns-2 : tie.Need-returns-2
 returns-2 c =
     let p = c .before in
     let i = p .before .before .before in
     let a = i .before .before .before .before .args in
-    one-stored R.Function (functionAt (now (a .file))) (a .c) (a .w) (read-is i) refl (p .put-function .ensures)
+    one-stored R.function (functionAt (now (a .file))) (a .c) (a .w) (read-is i) refl (p .put-function .ensures)
 
 pub fill-function-spec : {M : Type 1} → statement M
 fill-function-spec =

@@ -6,7 +6,7 @@ use Rattle.format.specs.Reading.{got}
 use Rattle.format.specs.Sections.{itemAt}
 use Rattle.laws.proofs.Told.{told}
 use Rattle.laws.proofs.Until.{someOf}
-use Rattle.rows.specs.declared.Row.the-variants as R
+use Rattle.rows.specs.Row as R
 use Rattle.fill.proofs.Facts.{one-room, one-stored, one-refused, item-got, item-none, item-refused}
 use borrow.Author.Needs.{needs}
 use Rattle.fill.proofs.records.fill_item.Statement.{statement}
@@ -21,26 +21,26 @@ put-item-requires : tie.Need-put-item-requires
 put-item-requires c κs =
     let i = c .before .before in
     let b = i .before .before .before .before in
-    one-room R.Item (someOf (itemAt (now (b .args .file))) TooLarge) (b .args .c) (b .args .w) (read-is i) (b .pre .1)
+    one-room R.item (someOf (itemAt (now (b .args .file))) TooLarge) (b .args .c) (b .args .w) (read-is i) (b .pre .1)
 
 returns : tie.Need-returns
 returns c =
     let a = c .before .before .before .before .args in
     let e = item-refused (now (a .file)) (a .c) (told itemRead (c .before .before .read-item .ensures) (c .enum-told .given .1)) in
-    one-refused R.Item (someOf (itemAt (now (a .file))) TooLarge) (a .c) (a .w) (now (a .words)) e
+    one-refused R.item (someOf (itemAt (now (a .file))) TooLarge) (a .c) (a .w) (now (a .words)) e
 
 returns-2 : tie.Need-returns-2
 returns-2 c =
     let a = c .before .before .before .before .args in
     let e = item-none (now (a .file)) (a .c) (told itemRead (c .before .before .read-item .ensures) (c .enum-told2 .given .1)) in
-    one-refused R.Item (someOf (itemAt (now (a .file))) TooLarge) (a .c) (a .w) (now (a .words)) e
+    one-refused R.item (someOf (itemAt (now (a .file))) TooLarge) (a .c) (a .w) (now (a .words)) e
 
 returns-3 : tie.Need-returns-3
 returns-3 c =
     let p = c .before in
     let i = p .before .before .before in
     let a = i .before .before .before .before .args in
-    one-stored R.Item (someOf (itemAt (now (a .file))) TooLarge) (a .c) (a .w) (read-is i) refl (p .put-item .ensures)
+    one-stored R.item (someOf (itemAt (now (a .file))) TooLarge) (a .c) (a .w) (read-is i) refl (p .put-item .ensures)
 
 pub fill-item-spec : {M : Type 1} → statement M
 fill-item-spec =

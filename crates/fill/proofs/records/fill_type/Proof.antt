@@ -4,7 +4,7 @@ use Rattle.format.specs.Reading.{got}
 use Rattle.format.specs.Sections.{typeAt}
 use Rattle.laws.proofs.Told.{told}
 use Rattle.types.specs.View.{typeRead}
-use Rattle.rows.specs.declared.Row.the-variants as R
+use Rattle.rows.specs.Row as R
 use Rattle.fill.proofs.Facts.{one-room, one-stored, one-refused}
 use borrow.Author.Needs.{needs}
 use Rattle.fill.proofs.records.fill_type.Statement.{statement}
@@ -19,19 +19,19 @@ put-type-requires : tie.Need-put-type-requires
 put-type-requires c κs =
     let i = c .before .before in
     let b = i .before .before .before .before in
-    one-room R.Type (typeAt (now (b .args .file))) (b .args .c) (b .args .w) (read-is i) (b .pre .1)
+    one-room R.descriptor (typeAt (now (b .args .file))) (b .args .c) (b .args .w) (read-is i) (b .pre .1)
 
 returns : tie.Need-returns
 returns c =
     let a = c .before .before .before .before .args in
-    one-refused R.Type (typeAt (now (a .file))) (a .c) (a .w) (now (a .words)) (told typeRead (c .before .before .read-type .ensures) (c .enum-told .given .1))
+    one-refused R.descriptor (typeAt (now (a .file))) (a .c) (a .w) (now (a .words)) (told typeRead (c .before .before .read-type .ensures) (c .enum-told .given .1))
 
 returns-2 : tie.Need-returns-2
 returns-2 c =
     let p = c .before in
     let i = p .before .before .before in
     let a = i .before .before .before .before .args in
-    one-stored R.Type (typeAt (now (a .file))) (a .c) (a .w) (read-is i) refl (p .put-type .ensures)
+    one-stored R.descriptor (typeAt (now (a .file))) (a .c) (a .w) (read-is i) refl (p .put-type .ensures)
 
 pub fill-type-spec : {M : Type 1} → statement M
 fill-type-spec =

@@ -3,7 +3,7 @@ use denote.Ref.{now}
 use Rattle.format.specs.Reading.{Whole}
 use Rattle.format.specs.WellFormed.{instructionFrom, typeThere, exportThere, functionThere, caseThere}
 use Rattle.rows.specs.declared.Kind.the-variants as K
-use Rattle.rows.specs.declared.Row.the-variants as R
+use Rattle.rows.specs.Row as R
 use Rattle.lines.proofs.Forms.{wide-raw, wide-none}
 use Rattle.table_data.specs.Tests.{itemThere, kindThere}
 use Rattle.table_rows.proofs.Reach.{renamed-whole}
@@ -18,7 +18,7 @@ use Rattle.measure.proofs.runs.row_size.Tie as tie
 code-whole : (c : tie.After-enum-told) → let a = c .before .before .before .args in Whole (instructionFrom (now (a .words)) (a .w))
 code-whole c =
     let s = c .before .before .before in
-    renamed-whole R.Instruction (instructionFrom (now (s .args .words))) (s .args .w) (rw (c .enum-told .given .1) at (s .pre .1))
+    renamed-whole R.instruction (instructionFrom (now (s .args .words))) (s .args .w) (rw (c .enum-told .given .1) at (s .pre .1))
 
 code-size-requires : tie.Need-code-size-requires
 code-size-requires c κs = code-whole c
@@ -30,7 +30,7 @@ returns c =
     let k = coded (now (s .args .words)) (s .args .w) (code-whole t) in
     rw (t .enum-told .given .1, k .read) (rw (k .read) at (c .code-size .ensures))
 
-type-is : (c : tie.After-enum-told2) → let a = c .before .before .before .args in Stands (now (a .file)) (now (a .words)) K.Types (a .w) (R.Type (typeThere (now (a .words)) (a .w)))
+type-is : (c : tie.After-enum-told2) → let a = c .before .before .before .args in Stands (now (a .file)) (now (a .words)) K.Types (a .w) (R.descriptor (typeThere (now (a .words)) (a .w)))
 type-is c = let s = c .before .before .before in type-stands (now (s .args .file)) (now (s .args .words)) (s .args .w) (rw (c .enum-told2 .given .1) at (s .pre .1))
 
 type-there-requires : tie.Need-type-there-requires
@@ -46,7 +46,7 @@ returns-2 c =
       len = λ h. rw (g .type-there .ensures) at (c .type-len .ensures);
     })
 
-item-is : (c : tie.After-enum-told3) → let a = c .before .before .before .args in Stands (now (a .file)) (now (a .words)) K.Items (a .w) (R.Item (itemThere (now (a .words)) (kindThere (now (a .words)) (a .w)) (a .w)))
+item-is : (c : tie.After-enum-told3) → let a = c .before .before .before .args in Stands (now (a .file)) (now (a .words)) K.Items (a .w) (R.item (itemThere (now (a .words)) (kindThere (now (a .words)) (a .w)) (a .w)))
 item-is c = let s = c .before .before .before in item-stands (now (s .args .file)) (now (s .args .words)) (s .args .w) (rw (c .enum-told3 .given .1) at (s .pre .1))
 
 item-there-requires : tie.Need-item-there-requires
@@ -62,7 +62,7 @@ returns-3 c =
       len = λ h. rw (g .item-there .ensures) at (c .item-len .ensures);
     })
 
-export-is : (c : tie.After-enum-told4) → let a = c .before .before .before .args in Stands (now (a .file)) (now (a .words)) K.Exports (a .w) (R.Export (exportThere (now (a .words)) (a .w)))
+export-is : (c : tie.After-enum-told4) → let a = c .before .before .before .args in Stands (now (a .file)) (now (a .words)) K.Exports (a .w) (R.export (exportThere (now (a .words)) (a .w)))
 export-is c = let s = c .before .before .before in export-stands (now (s .args .file)) (now (s .args .words)) (s .args .w) (rw (c .enum-told4 .given .1) at (s .pre .1))
 
 export-there-requires : tie.Need-export-there-requires
@@ -78,7 +78,7 @@ returns-4 c =
       len = λ h. rw (g .export-there .ensures) at (c .export-len .ensures);
     })
 
-function-is : (c : tie.After-enum-told5) → let a = c .before .before .before .args in Stands (now (a .file)) (now (a .words)) K.Functions (a .w) (R.Function (functionThere (now (a .words)) (a .w)))
+function-is : (c : tie.After-enum-told5) → let a = c .before .before .before .args in Stands (now (a .file)) (now (a .words)) K.Functions (a .w) (R.function (functionThere (now (a .words)) (a .w)))
 function-is c = let s = c .before .before .before in function-stands (now (s .args .file)) (now (s .args .words)) (s .args .w) (rw (c .enum-told5 .given .1) at (s .pre .1))
 
 function-there-requires : tie.Need-function-there-requires
@@ -93,7 +93,7 @@ returns-5 c =
       len = λ h. rw (g .function-there .ensures) at (c .function-len .ensures);
     })
 
-case-is : (c : tie.After-enum-told6) → let a = c .before .before .before .args in Stands (now (a .file)) (now (a .words)) K.Cases (a .w) (R.Case (caseThere (now (a .words)) (a .w)))
+case-is : (c : tie.After-enum-told6) → let a = c .before .before .before .args in Stands (now (a .file)) (now (a .words)) K.Cases (a .w) (R.exceptionCase (caseThere (now (a .words)) (a .w)))
 case-is c = let s = c .before .before .before in case-stands (now (s .args .file)) (now (s .args .words)) (s .args .w) (rw (c .enum-told6 .given .1) at (s .pre .1))
 
 case-there-requires : tie.Need-case-there-requires

@@ -5,16 +5,16 @@ use Rattle.data.specs.View.{itemEnd}
 use Rattle.data.proofs.Skipped.{skipped-some, skipped-none, skipped-refused}
 use Rattle.laws.proofs.Scans.{end-named}
 use Rattle.laws.proofs.Told.{told}
-use Rattle.rows.specs.declared.Row.the-variants as R
+use Rattle.rows.specs.Row as R
 use borrow.Author.Needs.{needs}
 use Rattle.scan.proofs.runs.skip_row.Statement.{statement}
 use Rattle.scan.proofs.runs.skip_row.Tie as tie
 
 returns : tie.Need-returns
-returns c = rw (c .before .enum-told .given .1) (c .skip-instruction .ensures ∙ sym (end-named R.Instruction (instructionAt _ _)))
+returns c = rw (c .before .enum-told .given .1) (c .skip-instruction .ensures ∙ sym (end-named R.instruction (instructionAt _ _)))
 
 returns-2 : tie.Need-returns-2
-returns-2 c = rw (c .before .enum-told2 .given .1) (c .skip-type .ensures ∙ sym (end-named R.Type (typeAt _ _)))
+returns-2 c = rw (c .before .enum-told2 .given .1) (c .skip-type .ensures ∙ sym (end-named R.descriptor (typeAt _ _)))
 
 returns-3 : tie.Need-returns-3
 unfolding endOf
@@ -29,13 +29,13 @@ unfolding endOf
 returns-5 c = rw (c .before .before .before .before .enum-told3 .given .1, skipped-some _ (told itemEnd (c .before .before .before .skip-item .ensures) (c .before .next .given .1)) .1)
 
 returns-6 : tie.Need-returns-6
-returns-6 c = rw (c .before .enum-told5 .given .1) (c .skip-export .ensures ∙ sym (end-named R.Export (exportAt _ _)))
+returns-6 c = rw (c .before .enum-told5 .given .1) (c .skip-export .ensures ∙ sym (end-named R.export (exportAt _ _)))
 
 returns-7 : tie.Need-returns-7
-returns-7 c = rw (c .before .enum-told6 .given .1) (c .skip-function .ensures ∙ sym (end-named R.Function (functionAt _ _)))
+returns-7 c = rw (c .before .enum-told6 .given .1) (c .skip-function .ensures ∙ sym (end-named R.function (functionAt _ _)))
 
 returns-8 : tie.Need-returns-8
-returns-8 c = rw (c .before .enum-told7 .given .1) (c .skip-case .ensures ∙ sym (end-named R.Case (caseAt _ _)))
+returns-8 c = rw (c .before .enum-told7 .given .1) (c .skip-case .ensures ∙ sym (end-named R.exceptionCase (caseAt _ _)))
 
 pub skip-row-spec : {M : Type 1} → statement M
 skip-row-spec =

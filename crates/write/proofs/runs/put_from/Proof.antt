@@ -4,7 +4,7 @@ use denote.Ref.{now}
 use Rattle.format.specs.WellFormed.{instructionFrom, typeThere, exportThere, functionThere, caseThere}
 use Rattle.format.specs.Writing.{Part}
 use Rattle.rows.specs.declared.Kind.the-variants as K
-use Rattle.rows.specs.declared.Row.the-variants as R
+use Rattle.rows.specs.Row as R
 use Rattle.line_bytes.specs.Laid.{Ready, Laid}
 use Rattle.table_data.specs.Tests.{itemThere, kindThere}
 use Rattle.table_rows.proofs.Reach.{renamed-whole}
@@ -19,7 +19,7 @@ use Rattle.write.proofs.runs.put_from.Tie as tie
 code-there : (c : tie.After-enum-told) → let a = c .before .before .before .before .args in Coded (now (a .words)) (a .w)
 code-there c =
     let s = c .before .before .before .before in
-    coded (now (s .args .words)) (s .args .w) (renamed-whole R.Instruction (instructionFrom (now (s .args .words))) (s .args .w) (rw (c .enum-told .given .1) at (s .pre .1)))
+    coded (now (s .args .words)) (s .args .w) (renamed-whole R.instruction (instructionFrom (now (s .args .words))) (s .args .w) (rw (c .enum-told .given .1) at (s .pre .1)))
 
 put-there-requires : tie.Need-put-there-requires
 put-there-requires c κs =
@@ -36,7 +36,7 @@ returns c =
     let k = code-there t in
     rw (t .enum-told .given .1, k .read) (subst (λ (ps : List Part). Laid ps (a .at) (now (a .out)) (p .put-there .result) (p .put-there .last .1 .1 .0)) (k .there .parts) (p .put-there .ensures))
 
-type-is : (c : tie.After-enum-told2) → let a = c .before .before .before .before .args in Stands (now (a .file)) (now (a .words)) K.Types (a .w) (R.Type (typeThere (now (a .words)) (a .w)))
+type-is : (c : tie.After-enum-told2) → let a = c .before .before .before .before .args in Stands (now (a .file)) (now (a .words)) K.Types (a .w) (R.descriptor (typeThere (now (a .words)) (a .w)))
 type-is c = let s = c .before .before .before .before in type-stands (now (s .args .file)) (now (s .args .words)) (s .args .w) (rw (c .enum-told2 .given .1) at (s .pre .1))
 
 type-there-requires : tie.Need-type-there-requires
@@ -54,7 +54,7 @@ returns-2 c =
     let t = p .before .before .before in
     rw (t .enum-told2 .given .1, type-is t .read) (rw (p .before .type-there .ensures) at (p .put-type .ensures))
 
-item-is : (c : tie.After-enum-told3) → let a = c .before .before .before .before .args in Stands (now (a .file)) (now (a .words)) K.Items (a .w) (R.Item (itemThere (now (a .words)) (kindThere (now (a .words)) (a .w)) (a .w)))
+item-is : (c : tie.After-enum-told3) → let a = c .before .before .before .before .args in Stands (now (a .file)) (now (a .words)) K.Items (a .w) (R.item (itemThere (now (a .words)) (kindThere (now (a .words)) (a .w)) (a .w)))
 item-is c = let s = c .before .before .before .before in item-stands (now (s .args .file)) (now (s .args .words)) (s .args .w) (rw (c .enum-told3 .given .1) at (s .pre .1))
 
 item-there-requires : tie.Need-item-there-requires
@@ -72,7 +72,7 @@ returns-3 c =
     let t = p .before .before .before in
     rw (t .enum-told3 .given .1, item-is t .read) (rw (p .before .item-there .ensures) at (p .put-item .ensures))
 
-export-is : (c : tie.After-enum-told4) → let a = c .before .before .before .before .args in Stands (now (a .file)) (now (a .words)) K.Exports (a .w) (R.Export (exportThere (now (a .words)) (a .w)))
+export-is : (c : tie.After-enum-told4) → let a = c .before .before .before .before .args in Stands (now (a .file)) (now (a .words)) K.Exports (a .w) (R.export (exportThere (now (a .words)) (a .w)))
 export-is c = let s = c .before .before .before .before in export-stands (now (s .args .file)) (now (s .args .words)) (s .args .w) (rw (c .enum-told4 .given .1) at (s .pre .1))
 
 export-there-requires : tie.Need-export-there-requires
@@ -90,7 +90,7 @@ returns-4 c =
     let t = p .before .before .before in
     rw (t .enum-told4 .given .1, export-is t .read) (rw (p .before .export-there .ensures) at (p .put-export .ensures))
 
-function-is : (c : tie.After-enum-told5) → let a = c .before .before .before .before .args in Stands (now (a .file)) (now (a .words)) K.Functions (a .w) (R.Function (functionThere (now (a .words)) (a .w)))
+function-is : (c : tie.After-enum-told5) → let a = c .before .before .before .before .args in Stands (now (a .file)) (now (a .words)) K.Functions (a .w) (R.function (functionThere (now (a .words)) (a .w)))
 function-is c = let s = c .before .before .before .before in function-stands (now (s .args .file)) (now (s .args .words)) (s .args .w) (rw (c .enum-told5 .given .1) at (s .pre .1))
 
 function-there-requires : tie.Need-function-there-requires
@@ -108,7 +108,7 @@ returns-5 c =
     let t = p .before .before .before in
     rw (t .enum-told5 .given .1, function-is t .read) (rw (p .before .function-there .ensures) at (p .put-function .ensures))
 
-case-is : (c : tie.After-enum-told6) → let a = c .before .before .before .before .args in Stands (now (a .file)) (now (a .words)) K.Cases (a .w) (R.Case (caseThere (now (a .words)) (a .w)))
+case-is : (c : tie.After-enum-told6) → let a = c .before .before .before .before .args in Stands (now (a .file)) (now (a .words)) K.Cases (a .w) (R.exceptionCase (caseThere (now (a .words)) (a .w)))
 case-is c = let s = c .before .before .before .before in case-stands (now (s .args .file)) (now (s .args .words)) (s .args .w) (rw (c .enum-told6 .given .1) at (s .pre .1))
 
 case-there-requires : tie.Need-case-there-requires
