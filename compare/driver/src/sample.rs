@@ -1,7 +1,6 @@
-//! A sample of the oracle's answers as a fixed list, to be replayed with no Rust at hand. compare/README.md has its format.
+//! A sample of the oracle's answers as a list of cases, to be run with no Rust at hand. crates/run_cases/README.md has the form of a list.
 //!
-//! Each entry was compared before it is written down: what the Rust tells is the Rust's answer; places in the file, which it does
-//! not tell, are ours.
+//! Each was compared before it is written down. The list's head says which numbers the Rust tells, and which are ours.
 use crate::compare::Comparison;
 use crate::generate::*;
 use crate::known::{over, written, Expected};
@@ -18,6 +17,16 @@ const MOST_BYTES: usize = 96;
 const OF_EACH_REFUSAL: usize = 10;
 const ACCEPTED: usize = 140;
 const WRITES: usize = 40;
+const ROOM: usize = 128;
+
+const HEAD: &str = "\
+# A sample of the answers of the Rust (habedi/ricevm at 29258f2a7f), made by compare/sample, which compared each of them first.
+#
+# The Rust's: whether a file is accepted; the number and the section of a refusal, and the detail of those whose error tells it; every number of every record;
+# the bytes used and the words needed; the bytes written, where the head of its part says so.
+# Ours, since the Rust does not tell them: the places of refusals 2 and 4 to 9, and the section and place of 21; refusal 20, which it does not have; the starts
+# of spans; the bytes where a known difference applies (docs/DIFFERENCES.md); that words and bytes past the end, and all of them with a refusal, stay as lent.
+";
 
 /// Written as the Rust does, written otherwise by the known differences, or refused by 21.
 #[derive(Clone, Copy, PartialEq, Eq, PartialOrd, Ord)]
@@ -52,20 +61,35 @@ pub fn list() -> String {
         }
     });
     assert!(comparison.tally.differences.is_empty(), "the two sides differ: run the comparison first");
-    let mut out = String::new();
+    let mut out = String::from(HEAD);
     for kind in [Writes::Alike, Writes::Otherwise] {
+        out.push_str(match kind {
+            Writes::Alike => "\n# ---- accepted, and written byte for byte as the Rust does\n\n",
+            _ => "\n# ---- accepted, and written otherwise by a known difference: the bytes are ours\n\n",
+        });
         let mut files: Vec<_> = accepted.iter().filter(|(key, _)| key.0 == kind).flat_map(|(_, files)| files).collect();
         files.sort_by_key(|file| file.len());
         for (k, file) in files.into_iter().take(ACCEPTED).enumerate() {
-            load_entry(&mut out, file, 0);
+            load_case(&mut out, file, 0);
+            write_loaded(&mut out, &loaded(file).unwrap());
             // Every tenth once more, with a word too few.
             if k % 10 == 1 {
-                load_entry(&mut out, file, 1);
+                load_case(&mut out, file, 1);
             }
         }
     }
-    refused.values().flatten().for_each(|file| load_entry(&mut out, file, 0));
-    tables.values().flatten().for_each(|t| write_entry(&mut out, t));
+    for ((number, section), files) in &refused {
+        let _ = writeln!(out, "\n# ---- refused by {number} in section {section}\n");
+        files.iter().for_each(|file| load_case(&mut out, file, 0));
+    }
+    for (kind, known) in &tables {
+        out.push_str(match kind {
+            Writes::Alike => "\n# ---- changed tables, written byte for byte as the Rust does\n\n",
+            Writes::Otherwise => "\n# ---- changed tables, written otherwise by a known difference: the bytes are ours\n\n",
+            Writes::Refused => "\n# ---- changed tables, refused by 21\n\n",
+        });
+        known.iter().for_each(|t| write_case(&mut out, t));
+    }
     out
 }
 
@@ -125,66 +149,50 @@ fn contents(file: &[u8], t: &Tables, module: &Module) -> u32 {
 }
 
 /// A load with two words more than needed, or with so many too few.
-fn load_entry(out: &mut String, file: &[u8], too_few: usize) {
-    let needed = loaded(file).map_or(0, |t| t.words.len());
+fn load_case(out: &mut String, file: &[u8], too_few: usize) {
+    let t = loaded(file);
+    let needed = t.as_ref().map_or(0, |t| t.words.len());
     if needed < too_few {
         return;
     }
     let lent = if too_few == 0 { needed + 2 } else { needed - too_few };
     let answer = load(file, &mut vec![0; lent], &mut [0; 16]);
-    start(out, 1, file, lent, answer);
-    if answer[0] == 0 {
-        let t = loaded(file).unwrap();
-        records(out, &t);
-        bytes_written(out, &t);
+    if too_few == 0 {
+        line(out, format!("file {}", hex(file)));
     }
-    end(out);
+    let mut case = format!("load {lent} | {}", listed(&answer));
+    if answer[0] == 0 {
+        let t = t.unwrap();
+        case += &format!(" | {} | {}", listed(&t.numbers), listed(&t.words));
+    }
+    line(out, case);
 }
 
-fn write_entry(out: &mut String, t: &Tables) {
-    let bytes = written(&TRUE, t);
-    let answer = bytes.as_ref().map_or_else(|refused| *refused, |bytes| [0, bytes.len() as i64, 0, 0]);
-    start(out, 2, &t.file, t.words.len(), answer);
-    records(out, t);
-    if answer[0] == 0 {
-        bytes_written(out, t);
-    }
-    end(out);
+/// What was loaded, written with room for two bytes more.
+fn write_loaded(out: &mut String, t: &Tables) {
+    let case = match written(&TRUE, t) {
+        Ok(bytes) => format!("write {} | | 0 {} 0 0 | {}", bytes.len() + 2, bytes.len(), hex(&bytes)),
+        Err(refused) => format!("write {ROOM} | | {}", listed(&refused)),
+    };
+    line(out, case);
 }
 
-fn end(out: &mut String) {
-    out.truncate(out.trim_end().len());
+fn write_case(out: &mut String, t: &Tables) {
+    line(out, format!("file {}", hex(&t.file)));
+    line(out, format!("module {}", listed(&t.numbers)));
+    line(out, format!("words {}", listed(&t.words)));
+    write_loaded(out, t);
+}
+
+fn line(out: &mut String, text: String) {
+    out.push_str(text.trim_end());
     out.push('\n');
 }
 
-/// What every entry begins with.
-fn start(out: &mut String, kind: i64, file: &[u8], words: usize, answer: Answer) {
-    number(out, kind);
-    number(out, file.len() as i64);
-    number(out, words as i64);
-    answer.iter().for_each(|n| number(out, *n));
-    bytes(out, file);
+fn listed<N: ToString>(numbers: &[N]) -> String {
+    numbers.iter().map(N::to_string).collect::<Vec<_>>().join(" ")
 }
 
-fn records(out: &mut String, t: &Tables) {
-    t.numbers.iter().chain(&t.words).for_each(|n| number(out, *n as i64));
-}
-
-fn bytes_written(out: &mut String, t: &Tables) {
-    let ours = written(&TRUE, t).unwrap();
-    let (module, _) = as_rust(t).unwrap();
-    number(out, (oracle::write(&module).as_ref() == Ok(&ours)) as i64);
-    number(out, ours.len() as i64);
-    bytes(out, &ours);
-}
-
-fn number(out: &mut String, n: i64) {
-    let _ = write!(out, "{:08x} ", n as u32);
-}
-
-fn bytes(out: &mut String, bytes: &[u8]) {
-    bytes.iter().for_each(|b| {
-        let _ = write!(out, "{b:02x}");
-    });
-    out.push(' ');
+fn hex(bytes: &[u8]) -> String {
+    bytes.iter().map(|b| format!("{b:02X}")).collect::<Vec<_>>().join(" ")
 }

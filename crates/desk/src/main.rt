@@ -1,14 +1,13 @@
 // Says of each file that its arguments name whether it is a good module, and if not, why not.
-mod input;
 mod out;
 mod report;
 
-use crate::input::Input;
-use crate::input::read_file;
 use crate::out::Out;
 use crate::report::good;
 use crate::report::refused;
 use crate::report::unread;
+use files::Input;
+use files::read_file;
 use format::module::LoadAnswer;
 use libc::STDERR_FILENO;
 use load::load;

@@ -1,8 +1,8 @@
 // What is said of a file.
-use crate::input::CHANGED;
 use crate::out::Out;
 use bits::bits_of;
 use bits::magnitude;
+use files::CHANGED;
 use format::module::ExportEntry;
 use format::module::Module;
 use format::refusal::Refusal;
