@@ -1,3 +1,4 @@
+pub mod ByHand
 pub mod Checked
 pub mod Once
 pub mod Operations

@@ -1,1 +1,1 @@
-// One answer each, for every operation that is offered: see proofs/Operations.antt.
+// One answer each, for every operation that is offered: see proofs/Operations.antt, Checked.antt and ByHand.antt.
