@@ -7,9 +7,10 @@ use mathlib.Core.Bool.{Bool, true, false, or-true}
 use mathlib.Core.List.{List, [], _∷_, _++_}
 use mathlib.Core.Option.{Option, none, some}
 use native.Mathlib.Omega.{arith}
-use borrow.Author.Tests.{lt-ltb, le-ltb}
-use lib.Dec.{eqb, eqb·suc-zero}
+use borrow.Author.Tests.{ltb-true, leb-true, lt-ltb, le-ltb, le-leb, eq-eqb, ne-eqb}
+use lib.Dec.{T, leb, ltb, eqb, eqb·suc-zero}
 use lib.IntN.{ℤ, pos, negsuc}
+use lib.Signed.{leZ, ltZ, _≤ℤ_, _<ℤ_, leZ-yes, ltZ-yes}
 use lib.ListN.{length, getElem?}
 use Rattle.format.proofs.Ranges.{none-past}
 use Rattle.laws.proofs.Types.{ExportEntry, Handler, ExceptionCase, Module, Refusal, NoExport, Frame, State}
@@ -24,8 +25,8 @@ use Rattle.format.specs.Checks.{minusOne}
 use Rattle.format.specs.WellFormed.{recordsOf}
 use Rattle.format.specs.Walk.{Event, entry, export, next, raise, frameOf, handlerFrame, goTo, entered, exported, advanced, covers, takes, caught, firstCase, firstHandler, fromThere, exportOr, moved, inTables, walkOf}
 use Rattle.laws.proofs.Many.{All}
-use Rattle.laws.proofs.Truth.{same-bytes, bytes-same}
-use Rattle.walked.proofs.Had.{Below, HadFrame, HadBoth, has-both, lacks-one, breaks}
+use Rattle.laws.proofs.Truth.{and-both, same-bytes, bytes-same}
+use Rattle.walked.proofs.Had.{Below, HadFrame, HadBoth, has-both, lacks-one, goes, breaks}
 
 -- ---- the cases that take a name: nameless ones, and those of that name
 
@@ -43,7 +44,51 @@ unfolding takes
 takes-only [] raised e = inl refl
 takes-only (b ∷ bs) raised e = inr (same-bytes (b ∷ bs) raised (rw (eqb·suc-zero (length bs)) at e))
 
+-- ---- the pcs that a handler covers: begin <= pc < end, and no others
+
+holds : (t : Bool) → T t → t ≡ true
+holds true h = refl
+holds false h = absurd h
+
+module _ (pc : ℤ) (h : Handler) where
+  pub covers-only : covers pc h ≡ true → (h .begin ≤ℤ pc) × (pc <ℤ h .end)
+  unfolding covers
+  covers-only e = let t = and-both (leZ (h .begin) pc) (ltZ pc (h .end)) e in (leZ-yes (rw (t .0) tt), ltZ-yes (rw (t .1) tt))
+
+  pub covers-all : h .begin ≤ℤ pc → pc <ℤ h .end → covers pc h ≡ true
+  unfolding covers
+  covers-all from to = rw (holds (leZ (h .begin) pc) (from .le), holds (ltZ pc (h .end)) (to .lt))
+
+-- where it begins and ends at places of the code, in natural numbers
+module _ (n : ℕ) (h : Handler) {b e : ℕ} (begin : h .begin ≡ pos b) (end : h .end ≡ pos e) where
+  pub covers-between : covers (pos n) h ≡ true → (b ≤ n) × (n < e)
+  unfolding covers
+  covers-between c = let t = and-both (leb b n) (ltb n e) (rw (begin, end) at c) in (leb-true b n (t .0), ltb-true n e (t .1))
+
+  pub between-covers : b ≤ n → n < e → covers (pos n) h ≡ true
+  unfolding covers
+  between-covers from to = rw (begin, end, le-leb b n from, lt-ltb n e to)
+
 module _ (codeSize typeSize : ℕ) where
+  -- a pc past the code, whatever the frame
+  pub pc-lost : (n : ℕ) (f : Frame) → codeSize ≤ n → goTo codeSize typeSize (pos n) f ≡ Broken
+  pc-lost n f h = breaks codeSize typeSize (pos n) f λ had. absurd (omega (arith, had .code))
+
+  -- ---- the frame of an entry or an export, at a pc of the code
+
+  module _ (n : ℕ) (here : n < codeSize) where
+    pub frame-none : (t : ℕ) → goTo codeSize typeSize (pos n) (frameOf typeSize (negsuc t)) ≡ At (pos n) F.None
+    frame-none t = goes codeSize typeSize (pos n) F.None (record { code = here; frame = tt })
+
+    pub frame-default : typeSize ≡ 0 → (t : ℕ) → goTo codeSize typeSize (pos n) (frameOf typeSize (pos t)) ≡ At (pos n) F.Default
+    frame-default empty t = rw (eq-eqb typeSize 0 empty) (goes codeSize typeSize (pos n) F.Default (record { code = here; frame = ap pos empty }))
+
+    pub frame-type : (t : ℕ) → t < typeSize → goTo codeSize typeSize (pos n) (frameOf typeSize (pos t)) ≡ At (pos n) (F.Type (pos t))
+    frame-type t h = rw (ne-eqb typeSize 0 (λ e. omega (arith, e))) (goes codeSize typeSize (pos n) (F.Type (pos t)) (record { code = here; frame = h }))
+
+  pub frame-lost : (pc : ℤ) (t : ℕ) → 0 < typeSize → typeSize ≤ t → goTo codeSize typeSize pc (frameOf typeSize (pos t)) ≡ Broken
+  frame-lost pc t filled h = rw (ne-eqb typeSize 0 (λ e. omega (arith, e))) (breaks codeSize typeSize pc (F.Type (pos t)) λ had. absurd (omega (arith, had .frame)))
+
   -- a last case with -1, whatever the handler's type
   pub no-catch-all : (t : ℤ) → caught codeSize typeSize t true (negsuc 0) ≡ Stopped NoCatchAll
   unfolding caught
@@ -111,6 +156,9 @@ module _ (file : List ℕ) (r : Records) where
   unfolding moved entered
   entry-goes e s = rw e
 
+  pub entry-past : {n : ℕ} → r .header .«entry_pc» ≡ pos n → codeSize ≤ n → (s : State) → moved file r entry s ≡ Walked Broken
+  entry-past {n} e h s = entry-goes e s ∙ ap Walked (pc-lost codeSize typeSize n (frameOf typeSize (r .header .«entry_type»)) h)
+
   pub no-export : (k : ℕ) → length (r .exports) ≤ k → (s : State) → moved file r (export k) s ≡ Refused (NoExport k) s
   unfolding moved
   no-export k h s = rw (← none-past (r .exports) k h)
@@ -123,6 +171,9 @@ module _ (file : List ℕ) (r : Records) where
     pub export-goes : {n : ℕ} → e .pc ≡ pos n → (s : State) → moved file r (export k) s ≡ Walked (goTo codeSize typeSize (pos n) (frameOf typeSize (e .frame)))
     unfolding moved exported
     export-goes {n} f s = rw (there, f, le-ltb n 0 (omega arith))
+
+    pub export-past : {n : ℕ} → e .pc ≡ pos n → codeSize ≤ n → (s : State) → moved file r (export k) s ≡ Walked Broken
+    export-past {n} f h s = export-goes f s ∙ ap Walked (pc-lost codeSize typeSize n (frameOf typeSize (e .frame)) h)
 
   -- ---- next and raise where there is no pc
 
