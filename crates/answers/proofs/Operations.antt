@@ -1,6 +1,6 @@
 -- A line an operation: any two answers that its contract allows, with what they leave in lent memory, are equal. The contracts are those of the code.
 -- Assumes nothing.
-use denote.Ref.{now}
+use denote.Ref.{ptr, now}
 use Prim.Native.Nat.{ℕ}
 use mathlib.Core.List.{List}
 use lib.IntN.{ℤ}
@@ -38,6 +38,7 @@ use Rattle.reader.proofs.read_operand.Reads as read-operand
 use Rattle.reader.proofs.read_word.Reads as read-word
 use Rattle.reader.proofs.read_name.Reads as read-name
 use Rattle.reader.proofs.read_span.Reads as read-span
+use Rattle.reader.proofs.spans.name.Reads as name
 use Rattle.reader.proofs.spans.count_pointers.Reads as count-pointers
 use Rattle.reader.proofs.write.operand_len.Reads as operand-len
 use Rattle.values.proofs.opcode.is_opcode.Reads as is-opcode
@@ -135,6 +136,10 @@ read-name-once κs a r s v w p q = one-viewed spanRead (byRead spanGot S.Short) 
 
 pub read-span-once : Once read-span.Learnt (λ κs r v. r)
 read-span-once κs a r s v w p q = one-viewed spanRead (byRead spanGot S.Short) span-kept r s p q
+
+-- the part itself: where it starts, and its bytes
+pub name-once : Once {S = (ℕ × ℕ) × List ℕ} name.Learnt (λ κs r v. (ptr r, now r))
+name-once κs a r s v w p q i = (one (p .start) (q .start) i, one (p .bytes) (q .bytes) i)
 
 pub count-pointers-once : Once count-pointers.Learnt (λ κs r v. r)
 count-pointers-once κs a r s v w p q = one p q

@@ -2,13 +2,14 @@
 -- Assumes nothing.
 use Prim.Native.Nat.{ℕ, suc, _+_, _-_, _≤_, _<_}
 use mathlib.Core.Path.{_≡_, refl, sym, ap, _∙_}
+use mathlib.Core.Logic.{_⊎_, inl, inr}
 use mathlib.Core.Bool.{Bool, true, false, cond}
 use mathlib.Core.List.{List, [], _∷_, _++_}
 use mathlib.Core.Option.{Option, none, some, Option·map}
 use native.Mathlib.Omega.{arith}
 use native.Mathlib.Nat.{add-zero, zero-add, add-sub-cancel-left}
 use native.Mathlib.Numerals.{add-one}
-use borrow.Author.Tests.{le-leb, ne-eqb}
+use borrow.Author.Tests.{leb-true, ne-eqb}
 use lib.Count.{ones}
 use lib.Dec.{leb}
 use lib.IntN.{ℤ, pos, negsuc}
@@ -16,7 +17,7 @@ use lib.Signed.{mag}
 use lib.ListN.{length, getD, take, drop, drop-of-length-le, length-take, length-drop, take-append-drop}
 use lib.Seq.{drop-cons, drop-drop}
 use Rattle.laws.proofs.Types.{Span}
-use Rattle.format.specs.Operands.{zeroIn, shown, within, inside}
+use Rattle.format.specs.Operands.{zeroIn, spanOf, shown, within, inside}
 use Rattle.format.specs.Records.{onesOf}
 use Rattle.format.specs.Sections.{nowhere}
 use Rattle.format.specs.WellFormed.{sameSpan}
@@ -59,13 +60,6 @@ module _ (file : List ℕ) (i : ℕ) where
   unfolding zeroIn
   zero-none h = rw (drop-of-length-le file h)
 
--- a span whose start or length is negative is in no file
-pub before-file : (size : ℕ) (start len : ℤ) {n : ℕ} → start ≡ negsuc n → within size start len ≡ false
-before-file size start len e = rw e
-
-pub no-length : (size : ℕ) (start len : ℤ) {m n : ℕ} → start ≡ pos m → len ≡ negsuc n → within size start len ≡ false
-no-length size start len e f = rw (e, f)
-
 -- ---- the ones of a map, byte after byte
 
 module _ (map : List ℕ) (i : ℕ) where
@@ -98,14 +92,16 @@ module _ (map : List ℕ) (i : ℕ) {r : ℕ} where
 
 -- ---- what a span shows
 
-module _ (file : List ℕ) (s : Span) where
-  pub shown-before : {n : ℕ} → s .start ≡ negsuc n → shown file s ≡ []
-  unfolding shown
-  shown-before e = rw (before-file (length file) (s .start) (s .len) e)
+pub span-is : (s : Span) {m n : ℕ} → s .start ≡ pos m → s .len ≡ pos n → s ≡ spanOf m n
+span-is s start len i = record { start = start i; len = len i }
 
-  pub shown-negative : {m n : ℕ} → s .start ≡ pos m → s .len ≡ negsuc n → shown file s ≡ []
-  unfolding shown
-  shown-negative e f = rw (no-length (length file) (s .start) (s .len) e f)
+module _ (file : List ℕ) (s : Span) where
+  -- one whose start or length is negative is in no file
+  pub before-file : {n : ℕ} → s .start ≡ negsuc n → inside file s ≡ false
+  before-file e = rw e
+
+  pub no-length : {m n : ℕ} → s .start ≡ pos m → s .len ≡ negsuc n → inside file s ≡ false
+  no-length e f = rw (e, f)
 
   -- the part from a place on, of so many bytes, where it lies in the file
   pub shown-part : {m n : ℕ} → s .start ≡ pos m → s .len ≡ pos n → shown file s ≡ cond (leb (m + n) (length file)) (take n (drop m file)) []
@@ -121,13 +117,34 @@ module _ (file : List ℕ) (s : Span) where
       shorter true = omega (arith, length-take (mag (s .len)) (drop (mag (s .start)) file))
       shorter false = omega arith
 
--- ---- the span of what is not read shows nothing
+-- ---- an empty part, exactly where the span is empty or leaves the file
 
-pub shown-nowhere : (file : List ℕ) → shown file nowhere ≡ []
-unfolding shown
-shown-nowhere file = rw (le-leb 0 (length file) (omega arith))
+module _ (file : List ℕ) where
+  empty-by : (start len : ℤ) (t : Bool) → within (length file) start len ≡ t → cond t (take (mag len) (drop (mag start) file)) [] ≡ [] → (len ≡ pos 0) ⊎ (t ≡ false)
+  empty-by start len false lies nil = inr refl
+  empty-by (pos start) (pos len) true lies nil =
+      let size : len ≡ 0 = omega (arith, leb-true (start + len) (length file) lies, simp (length-take, length-drop) at (ap length nil)) in
+      inl (ap pos size)
+  empty-by (pos start) (negsuc len) true lies nil = let z : _≡_ {A = ℕ} 0 1 = cc in absurd (omega arith)
+  empty-by (negsuc start) len true lies nil = let z : _≡_ {A = ℕ} 0 1 = cc in absurd (omega arith)
 
+  module _ (s : Span) where
+    pub shown-empty : s .len ≡ pos 0 → shown file s ≡ []
+    unfolding shown
+    shown-empty e = rw e (either (within (length file) (s .start) (pos 0)))
+      where
+        either : (t : Bool) → cond t (take 0 (drop (mag (s .start)) file)) [] ≡ []
+        either true = refl
+        either false = refl
+
+    pub shown-outside : inside file s ≡ false → shown file s ≡ []
+    unfolding shown
+    shown-outside e = rw e
+
+    pub empty-only : shown file s ≡ [] → (s .len ≡ pos 0) ⊎ (inside file s ≡ false)
+    unfolding shown
+    empty-only = empty-by (s .start) (s .len) (inside file s) refl
+
+-- the span of what is not read
 pub shows-nothing : (file : List ℕ) (s : Span) → sameSpan s nowhere ≡ true → shown file s ≡ []
-shows-nothing file s e =
-    let same = and-both (sameZ (s .start) (pos 0)) (sameZ (s .len) (pos 0)) e in
-    rw (same-number (s .start) (pos 0) (same .0), same-number (s .len) (pos 0) (same .1)) (shown-nowhere file)
+shows-nothing file s e = shown-empty file s (same-number (s .len) (pos 0) (and-both (sameZ (s .start) (pos 0)) (sameZ (s .len) (pos 0)) e .1))

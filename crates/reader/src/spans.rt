@@ -5,13 +5,13 @@ use format::types::Span;
 ghost use mathlib.Core.Path.{_≡_};
 ghost use Prim.Native.Nat.{_+_, _≤_, _<_, _^_};
 ghost use lib.ListN.{length};
-ghost use Rattle.format.specs.Operands.{shown};
+ghost use Rattle.format.specs.Operands.{spanOf, shown};
 ghost use Rattle.format.specs.Records.{onesOf};
-ghost use Rattle.reader.specs.View.{partOf};
+ghost use Rattle.reader.specs.View.{PartOf};
 
 // Nothing, where it leaves the file.
 fn part(file: &[u8], from: usize, count: usize) -> &[u8]
-    ensures { λ r. ⌜ now r ≡ partOf (now (file .entry)) from count ⌝ }
+    ensures { λ r. ⌜ PartOf (file .entry) (spanOf from count) r ⌝ }
 {
     if file.len() < from {
         return &file[..0];
@@ -24,7 +24,7 @@ fn part(file: &[u8], from: usize, count: usize) -> &[u8]
 
 // The part of the caller's slice between the span's ends; an empty part where the span is empty or leaves the file.
 pub fn name(file: &[u8], span: Span) -> &[u8]
-    ensures { λ r. ⌜ now r ≡ shown (now (file .entry)) span ⌝ }
+    ensures { λ r. ⌜ PartOf (file .entry) span r ⌝ }
 {
     let Natural::Is(from) = as_natural(span.start) else {
         return &file[..0];

@@ -17,7 +17,7 @@ use Rattle.format.specs.declared.module.Shape.the-variants as S
 use Rattle.format.specs.Reading.{Step, got, past}
 use Rattle.format.specs.Operands.{spanOf, inside, shown, encodeOperand}
 use Rattle.format.specs.Records.{kindNumber, shapeOf, lengthOf}
-use Rattle.format.specs.Sections.{itemOf, passOver, valueAt, elementsAt, offsetAt, codedAt, itemAt, itemsAt}
+use Rattle.format.specs.Sections.{nowhere, itemOf, passOver, valueAt, elementsAt, offsetAt, codedAt, itemAt, itemsAt}
 use Rattle.format.specs.Words.{flatten}
 use Rattle.format.specs.Content.{ItemShown, itemShown}
 use Rattle.format.specs.Writing.{operand, raw, codeParts, itemLine, partBytes, lineBytes}
@@ -26,7 +26,7 @@ use Rattle.laws.proofs.Flatten.{flatten-append}
 use Rattle.laws.proofs.Items.{items-turn, items-end}
 use Rattle.laws.proofs.Lists.{no-elements, all-first, all-rest}
 use Rattle.laws.proofs.Many.{All}
-use Rattle.laws.proofs.Names.{shown-part, shown-nowhere}
+use Rattle.laws.proofs.Names.{shown-part, shown-empty}
 use Rattle.laws.proofs.Narrow.{Fits30, NarrowPart, Narrow}
 use Rattle.laws.proofs.OperandCases.{span-whole}
 use Rattle.laws.proofs.Passed.{passWords, words-whole}
@@ -114,7 +114,7 @@ module _ (file : List ℕ) where
   made-shown S.Bytes kind offset n c value st e = rw (← e) (stands-shown st)
   made-shown (S.Words k) kind offset n c value st e = rw (← e) (stands-shown st)
   made-shown (S.Single k) kind offset n c value st e = rw (← e) (stands-shown st)
-  made-shown S.Nothing kind offset n c value st e = shown-nowhere file ∙ sym (no-elements value e)
+  made-shown S.Nothing kind offset n c value st e = shown-empty file nowhere refl ∙ sym (no-elements value e)
 
   value-back : (kind : DataKind) (offset n : ℕ) (value : List ℕ) → Fixed (shapeOf kind) offset n → length value ≡ lengthOf (shapeOf kind) n
       → Back file (itemShown file) (valueAt file kind (pos offset) n) (kind, pos offset, pos n, value) value

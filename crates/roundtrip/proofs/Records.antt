@@ -10,14 +10,14 @@ use lib.Signed.{mag}
 use lib.ListN.{length, length-append}
 use Rattle.laws.proofs.Types.{Handler}
 use Rattle.format.specs.Operands.{zeroIn, encodeOperand}
-use Rattle.format.specs.Sections.{typeAt, exportAt, functionAt, importAt, caseAt, lastAt, casesAt, headAt, handlerAt}
+use Rattle.format.specs.Sections.{nowhere, typeAt, exportAt, functionAt, importAt, caseAt, lastAt, casesAt, headAt, handlerAt}
 use Rattle.format.specs.Words.{flatten}
 use Rattle.format.specs.Content.{TypeShown, ExportShown, FunctionShown, CaseShown, HandlerShown, typeShown, exportShown, functionShown, caseShown, handlerShown}
 use Rattle.format.specs.Writing.{operand, typeLine, exportLine, functionLine, importLines, caseLine, lastLine, caseLines, handlerLines, partBytes, lineBytes}
 use Rattle.laws.proofs.Flatten.{flatten-append}
 use Rattle.laws.proofs.Lists.{all-first, all-rest, of-map, all-both}
 use Rattle.laws.proofs.Many.{All}
-use Rattle.laws.proofs.Names.{shown-nowhere}
+use Rattle.laws.proofs.Names.{shown-empty}
 use Rattle.laws.proofs.Narrow.{Fits30, Fits32, NarrowPart, Narrow}
 use Rattle.laws.proofs.Scans.{flatten-renamed}
 use Rattle.roundtrip.proofs.Back.{Back, back-give, back-then, back-last, back-operand, back-word, back-name, back-four, back-count, back-sized, back-many}
@@ -108,7 +108,7 @@ module _ (file : List ℕ) where
   unfolding lastAt
   last-back (name, pc) narrow empty =
       back-then (back-operand 8 pc (narrow .0)) λ b eb.
-      back-give _ (rw (shown-nowhere file, empty, eb))
+      back-give _ (rw (shown-empty file nowhere refl, empty, eb))
 
   pub cases-back : (cs : List CaseShown) (last : CaseShown) → All Narrow (caseLines (cs ++ last ∷ [])) → All Clean cs → last .0 ≡ []
       → Back file (map (caseShown file)) (casesAt file (length cs)) (cs ++ last ∷ []) (flatten lineBytes (caseLines (cs ++ last ∷ [])))

@@ -20,6 +20,7 @@ use Rattle.format.specs.declared.walk.WalkAnswer.the-variants.{Walked, Refused}
 use Rattle.format.specs.Reading.{got}
 use Rattle.format.specs.Operands.{shown}
 use Rattle.format.specs.Records.{Handled, Records, moduleOf}
+use Rattle.format.specs.Sections.{nowhere}
 use Rattle.format.specs.Checks.{unless, firstOf, below, minusOne, caseFault, headerFault, exportFault, rangeFault, ownFault, handlerFault, faultIn}
 use Rattle.format.specs.Load.{loadOf}
 use Rattle.format.specs.WellFormed.{recordsOf}
@@ -27,7 +28,7 @@ use Rattle.format.specs.Walk.{Event, entry, export, next, raise, frameOf, handl
 use Rattle.laws.proofs.Loads.{accepted}
 use Rattle.laws.proofs.Lists.{all-told, all-both}
 use Rattle.laws.proofs.Many.{All}
-use Rattle.laws.proofs.Names.{shown-nowhere}
+use Rattle.laws.proofs.Names.{shown-empty}
 use Rattle.laws.proofs.Truth.{then-none, unless-none}
 use Rattle.laws.proofs.Walks.{walk-is}
 use Rattle.loaded.proofs.Good.{Good, HandledGood}
@@ -139,7 +140,7 @@ module _ (codeSize typeSize : ℕ) where
     unfolding handlerFault
     handled-there k (h, cs) good e raised =
         let t = then-none (ownFault codeSize typeSize k h) (caseFault codeSize k 0 cs) e in
-        let nameless = ap (shown file) (good .cases .ends .name) ∙ shown-nowhere file in
+        let nameless = ap (shown file) (good .cases .ends .name) ∙ shown-empty file nowhere refl in
         cases-there raised (h .descriptor) (descriptor-had k h (t .0)) k 0 cs (rw (good .cases .are) (last-ends (good .cases .some) (good .cases .last) nameless)) (t .1)
 
   -- ---- next and raise

@@ -13,10 +13,10 @@ use Rattle.line_bytes.proofs.put_case.Tie as tie
 after-name : (p : tie.After-put-ended)
     → let a = p .before .before .before .before .before .args in
     Writing (caseLine (caseShown (now (a .file)) (a .c)) .parts) (a .at) (now (a .out)) (operand (a .c .pc) ∷ []) (p .put-ended .result) (p .put-ended .last .0)
-after-name p = raw-step (writing (p .before .before .before .before .before .pre)) (ap (λ name. name ++ 0 ∷ []) (p .before .name .ensures)) (p .put-ended .ensures)
+after-name p = raw-step (writing (p .before .before .before .before .before .pre)) (ap (λ name. name ++ 0 ∷ []) (p .before .name .ensures .bytes)) (p .put-ended .ensures)
 
 put-ended-requires : tie.Need-put-ended-requires
-put-ended-requires c κs = raw-room (writing (c .before .before .before .before .pre)) (ap (λ name. name ++ 0 ∷ []) (c .name .ensures))
+put-ended-requires c κs = raw-room (writing (c .before .before .before .before .pre)) (ap (λ name. name ++ 0 ∷ []) (c .name .ensures .bytes))
 
 put-operand-requires : tie.Need-put-operand-requires
 put-operand-requires c κs = let s = c .before .before .before .before .before .before .before .before .before in operand-ready (after-name (c .before .before .before .before)) (kept (s .args .c .pc) (omega (arith, s .good .1 .1 .1 .0)))

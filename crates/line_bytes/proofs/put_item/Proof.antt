@@ -44,10 +44,10 @@ put-operand-requires : tie.Need-put-operand-requires
 put-operand-requires c κs = let s = c .before .before .before .before .before .before .before .before .before .before in operand-ready (after-code (c .before .before .before .before)) (kept (s .args .d .offset) (omega (arith, s .good .1 .1 .1 .0)))
 
 put-bytes-requires : tie.Need-put-bytes-requires
-put-bytes-requires c κs = raw-room (after-offset (c .before .before .before .before)) (c .name .ensures)
+put-bytes-requires c κs = raw-room (after-offset (c .before .before .before .before)) (c .name .ensures .bytes)
 
 returns : tie.Need-returns
-returns c = finish (raw-step (after-offset (c .before .before .before .before .before .before .before)) (c .before .before .before .name .ensures) (c .before .before .put-bytes .ensures))
+returns c = finish (raw-step (after-offset (c .before .before .before .before .before .before .before)) (c .before .before .before .name .ensures .bytes) (c .before .before .put-bytes .ensures))
 
 pub put-item-spec : {M : Type 1} → statement M
 put-item-spec =

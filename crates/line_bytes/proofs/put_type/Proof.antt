@@ -49,7 +49,7 @@ after-length : (p : tie.After-put-operand3)
     Left s (raw (shown (now (s .args .file)) (s .args .t .map)) ∷ []) (p .put-operand3 .result) (p .put-operand3 .last .0)
 after-length p =
     let s = p .before .before .before .before .before .before .before .before .before .before .before .before .before .before .before in
-    operand-step (after-size (p .before .before .before .before)) (map-length _ _ _ (p .before .before .before .before .before .before .before .before .before .before .before .before .name .ensures) (s .pre .0)) (p .put-operand3 .ensures)
+    operand-step (after-size (p .before .before .before .before)) (map-length _ _ _ (p .before .before .before .before .before .before .before .before .before .before .before .before .name .ensures .bytes) (s .pre .0)) (p .put-operand3 .ensures)
 
 put-operand-requires : tie.Need-put-operand-requires
 put-operand-requires c κs = let s = c .before .before .before .before .before in operand-ready (writing (s .pre .1)) (kept (s .args .t .id) (omega (arith, s .good .1 .1 .1 .0)))
@@ -60,16 +60,16 @@ put-operand-requires-2 c κs = let s = c .before .before .before .before .before
 cast-put-operand : tie.Need-cast-put-operand
 cast-put-operand c =
     let s = c .before .before .before .before .before .before .before .before .before .before .before .before .before .before in
-    record { sfits = omega (arith, shown-most (now (s .args .file)) (s .args .t .map), ap length (c .before .before .before .before .before .before .before .before .before .before .before .name .ensures), s .pre .0) }
+    record { sfits = omega (arith, shown-most (now (s .args .file)) (s .args .t .map), ap length (c .before .before .before .before .before .before .before .before .before .before .before .name .ensures .bytes), s .pre .0) }
 
 put-operand-requires-3 : tie.Need-put-operand-requires-3
-put-operand-requires-3 c κs = operand-ready (after-size (c .before .before .before)) (map-length _ _ _ (c .before .before .before .before .before .before .before .before .before .before .before .name .ensures) (c .before .before .before .before .before .before .before .before .before .before .before .before .before .before .pre .0))
+put-operand-requires-3 c κs = operand-ready (after-size (c .before .before .before)) (map-length _ _ _ (c .before .before .before .before .before .before .before .before .before .before .before .name .ensures .bytes) (c .before .before .before .before .before .before .before .before .before .before .before .before .before .before .pre .0))
 
 put-bytes-requires : tie.Need-put-bytes-requires
-put-bytes-requires c κs = raw-room (after-length (c .before .before .before)) (c .before .before .before .before .before .before .before .before .before .before .before .before .before .before .before .name .ensures)
+put-bytes-requires c κs = raw-room (after-length (c .before .before .before)) (c .before .before .before .before .before .before .before .before .before .before .before .before .before .before .before .name .ensures .bytes)
 
 returns : tie.Need-returns
-returns c = finish (raw-step (after-length (c .before .before .before .before .before .before)) (c .before .before .before .before .before .before .before .before .before .before .before .before .before .before .before .before .before .before .name .ensures) (c .before .before .put-bytes .ensures))
+returns c = finish (raw-step (after-length (c .before .before .before .before .before .before)) (c .before .before .before .before .before .before .before .before .before .before .before .before .before .before .before .before .before .before .name .ensures .bytes) (c .before .before .put-bytes .ensures))
 
 pub put-type-spec : {M : Type 1} → statement M
 put-type-spec =

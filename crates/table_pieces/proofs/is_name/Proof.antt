@@ -13,7 +13,7 @@ returns-2 : tie.Need-returns-2
 returns-2 c =
     let n = c .before in
     let t = n .before in
-    rw (sym (t .before .is-span .ensures) ∙ not-false _ (t .if1 .left)) (c .all-nonzero .ensures ∙ ap (λ l. isNone (zeroIn l)) (n .name .ensures))
+    rw (sym (t .before .is-span .ensures) ∙ not-false _ (t .if1 .left)) (c .all-nonzero .ensures ∙ ap (λ l. isNone (zeroIn l)) (n .name .ensures .bytes))
 
 pub is-name-spec : {M : Type 1} → statement M
 is-name-spec = tie.close (tie.spec (λ c κs. search needs) returns (λ c κs. search needs) (λ c κs. search needs) returns-2)

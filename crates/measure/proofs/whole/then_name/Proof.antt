@@ -20,7 +20,7 @@ add-t12 : tie.Need-add-t12
 add-t12 c =
     let s = c .before .before .before .before .before in
     let a = s .args in
-    omega (arith, s .pre .0, s .pre .1, (rw (c .before .before .done .given .1) at (s .pre .2)) .0, ap length (c .name .ensures), shown-most (now (a .file)) (a .span))
+    omega (arith, s .pre .0, s .pre .1, (rw (c .before .before .done .given .1) at (s .pre .2)) .0, ap length (c .name .ensures .bytes), shown-most (now (a .file)) (a .span))
 
 add-t11 : tie.Need-add-t11
 add-t11 c = omega (arith, add-t12 c)
@@ -35,7 +35,7 @@ returns-2 c =
     let d = c .before .before .done .given in
     let t = rw (d .1) at (s .pre .2) in
     let name = shown (now (a .file)) (a .span) in
-    let len = ap length (c .name .ensures) in
+    let len = ap length (c .name .ensures .bytes) in
     fits-follows (a .done) (nameLines name) (2 ^ 25) (a .w) (a .w) (d .1) (t .1) _ (rw (len, t .1) (sym (name-fits (d .0 .0) (a .w) name)))
     (sym (add-zero (a .w))) (omega (arith, t .1, len, shown-most (now (a .file)) (a .span), s .pre .0))
 

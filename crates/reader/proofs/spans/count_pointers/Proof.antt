@@ -10,10 +10,10 @@ use Rattle.reader.proofs.spans.count_pointers.Tie as tie
 ones-in-requires : tie.Need-ones-in-requires
 ones-in-requires c κs =
     let s = c .before .before in
-    omega (arith, ap length (c .name .ensures), length-shown (s .args .file .now) (s .args .map), s .good .1 .0)
+    omega (arith, ap length (c .name .ensures .bytes), length-shown (s .args .file .now) (s .args .map), s .good .1 .0)
 
 returns : tie.Need-returns
-returns c = c .ones-in .ensures ∙ ap onesOf (c .before .name .ensures)
+returns c = c .ones-in .ensures ∙ ap onesOf (c .before .name .ensures .bytes)
 
 pub count-pointers-spec : {M : Type 1} → statement M
 count-pointers-spec = tie.close (tie.spec (λ c κs. search needs) ones-in-requires returns)

@@ -1,7 +1,8 @@
-use mathlib.Core.Path.{_≡_, sym, _∙_}
+use mathlib.Core.Path.{_≡_, refl}
 use lib.IntN.{pos}
 use Rattle.bits.proofs.Signs.{natural-is, natural-not, passed}
-use Rattle.laws.proofs.Names.{shown-before, shown-negative, shown-part}
+use Rattle.laws.proofs.Names.{before-file, no-length, span-is}
+use Rattle.reader.proofs.Facts.{part-outside}
 use borrow.Author.Needs.{needs}
 use Rattle.reader.proofs.spans.name.Statement.{statement}
 use Rattle.reader.proofs.spans.name.Tie as tie
@@ -11,7 +12,7 @@ returns c =
     let m = c .before .before .before in
     let t = m .before in
     let a = t .before .before .args in
-    sym (shown-before _ _ (natural-not _ (passed (a .span .start) (t .struct-told .given .0 .1) (m .as-natural .ensures) (c .before .enum-told .given .1))))
+    part-outside (before-file (a .file .now) (a .span) (natural-not _ (passed (a .span .start) (t .struct-told .given .0 .1) (m .as-natural .ensures) (c .before .enum-told .given .1)))) refl refl
 
 -- the start is a place
 module _ (c : tie.After-from) where
@@ -25,7 +26,8 @@ returns-2 c =
     let m = c .before .before .before in
     let t = m .before in
     let f = t .before .before in
-    sym (shown-negative _ _ (start-is f) (natural-not _ (passed (f .before .before .before .before .before .args .span .len) (t .struct-told2 .given .1 .0 .1) (m .as-natural2 .ensures) (c .before .enum-told2 .given .1))))
+    let a = f .before .before .before .before .before .args in
+    part-outside (no-length (a .file .now) (a .span) (start-is f) (natural-not _ (passed (a .span .len) (t .struct-told2 .given .1 .0 .1) (m .as-natural2 .ensures) (c .before .enum-told2 .given .1)))) refl refl
 
 returns-3 : tie.Need-returns-3
 returns-3 c =
@@ -33,8 +35,8 @@ returns-3 c =
     let m = k .before .before in
     let t = m .before in
     let f = t .before .before in
-    c .part .ensures
-    ∙ sym (shown-part _ _ (start-is f) (natural-is _ (passed (f .before .before .before .before .before .args .span .len) (t .struct-told2 .given .1 .0 .1) (m .as-natural2 .ensures) (k .count .given .1))))
+    let span = f .before .before .before .before .before .args .span in
+    rw (span-is span (start-is f) (natural-is _ (passed (span .len) (t .struct-told2 .given .1 .0 .1) (m .as-natural2 .ensures) (k .count .given .1)))) (c .part .ensures)
 
 pub name-spec : {M : Type 1} → statement M
 name-spec =

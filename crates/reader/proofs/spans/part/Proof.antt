@@ -1,10 +1,13 @@
 use Prim.Native.Nat.{_+_, _≤_, _<_}
+use mathlib.Core.Path.{refl}
 use native.Mathlib.Nat.{add-sub-cancel-left}
 use native.Mathlib.Omega.{arith}
 use lib.ListN.{length}
 use denote.Ref.{now}
 use borrow.Author.Tests.{le-leb, lt-leb}
 use borrow.Author.Needs.{needs}
+use Rattle.format.specs.Operands.{shown}
+use Rattle.reader.proofs.Facts.{part-outside}
 use Rattle.reader.proofs.spans.part.Statement.{statement}
 use Rattle.reader.proofs.spans.part.Tie as tie
 
@@ -12,19 +15,20 @@ returns : tie.Need-returns
 returns c =
     let a = c .before .before .args in
     let h : length (now (a .file)) < a .from + a .count = omega arith in
-    rw (lt-leb _ _ h)
+    part-outside (lt-leb _ _ h) refl refl
 
 returns-2 : tie.Need-returns-2
 returns-2 c =
     let a = c .before .before .before .args in
     let h : length (now (a .file)) < a .from + a .count = omega arith in
-    rw (lt-leb _ _ h)
+    part-outside (lt-leb _ _ h) refl refl
 
 returns-3 : tie.Need-returns-3
+unfolding shown
 returns-3 c =
     let a = c .before .before .before .args in
     let h : a .from + a .count ≤ length (now (a .file)) = omega arith in
-    rw (le-leb _ _ h, add-sub-cancel-left)
+    record { start = rw (le-leb _ _ h); bytes = rw (le-leb _ _ h, add-sub-cancel-left) }
 
 pub part-spec : {M : Type 1} → statement M
 part-spec =

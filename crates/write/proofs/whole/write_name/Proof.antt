@@ -19,10 +19,10 @@ put-byte-requires : tie.Need-put-byte-requires
 put-byte-requires c κs = raw-room (writing (c .before .before .before .pre)) refl
 
 put-ended-requires : tie.Need-put-ended-requires
-put-ended-requires c κs = raw-room (after-end (c .before .before .before .before)) (ap (λ name. name ++ 0 ∷ []) (c .name .ensures))
+put-ended-requires c κs = raw-room (after-end (c .before .before .before .before)) (ap (λ name. name ++ 0 ∷ []) (c .name .ensures .bytes))
 
 returns : tie.Need-returns
-returns c = finish (raw-step (after-end (c .before .before .before .before .before .before .before)) (ap (λ name. name ++ 0 ∷ []) (c .before .before .before .name .ensures)) (c .before .before .put-ended .ensures))
+returns c = finish (raw-step (after-end (c .before .before .before .before .before .before .before)) (ap (λ name. name ++ 0 ∷ []) (c .before .before .before .name .ensures .bytes)) (c .before .before .put-ended .ensures))
 
 pub write-name-spec : {M : Type 1} → statement M
 write-name-spec = tie.close (tie.spec put-byte-requires (λ c κs. search needs) put-ended-requires (λ c. search needs) returns)
