@@ -14,22 +14,22 @@ use lib.ListN.{length}
 use lib.Signed.{mag}
 use Rattle.format.specs.declared.module.Handler.{Handler}
 use Rattle.format.specs.declared.module.ExceptionCase.{ExceptionCase}
-use Rattle.format.specs.declared.walk.State.{State}
-use Rattle.format.specs.declared.walk.State.the-variants.{Stopped}
-use Rattle.format.specs.declared.walk.Stop.the-variants.{Uncaught}
 use Rattle.format.specs.Reading.{got, many, leading, Whole}
 use Rattle.format.specs.Operands.{shown}
 use Rattle.format.specs.Records.{Handled}
 use Rattle.format.specs.Words.{handlerWidth, caseWidth}
 use Rattle.format.specs.Sections.{nowhere}
 use Rattle.format.specs.WellFormed.{sameSpan, handlerThere, caseThere, handlerFrom, caseFrom, lastFrom, casesFrom, handledFrom}
-use Rattle.format.specs.Walk.{covers, takes, caught, firstCase, firstHandler}
+use Rattle.format.specs.Walk.{covers, takes}
 use Rattle.laws.proofs.Groups.{Cased}
 use Rattle.laws.proofs.Many.{parts-of, many-ind, leading-turn, leading-done}
 use Rattle.laws.proofs.Names.{shows-nothing}
 use Rattle.laws.proofs.Whole.{whole-got, whole-first, whole-next}
 use Rattle.table_pieces.proofs.Tested.{there-got}
 use Rattle.table_handlers.proofs.Handlers.{cases, lasts, handlers, few-cases}
+use Rattle.search.specs.declared.Chosen.{Chosen}
+use Rattle.search.specs.declared.Chosen.the-variants.{Nothing, Case}
+use Rattle.search.specs.Choice.{chosenCase, chosenIn}
 
 -- ---- n cases, one after the other
 
@@ -110,12 +110,12 @@ module _ (file : List ℕ) (words : List ℤ) where
 
 -- ---- a search among what is left of a handler's cases
 
-module _ (file raised : List ℕ) (words : List ℤ) (t : ℤ) (answer : ℕ → ℕ → State) where
+module _ (file raised : List ℕ) (words : List ℤ) (t : ℤ) (answer : Chosen) where
   pub record Left (more at : ℕ) : Type 0 where
     pub some : 0 < more
     pub room : at + caseWidth * more ≤ length words
     pub nameless : shown file (caseThere words (at + caseWidth * (more - 1)) .name) ≡ []
-    pub finds : (code types : ℕ) → firstCase code types file raised t (casesThere words more at) ≡ answer code types
+    pub finds : chosenCase file raised t (casesThere words more at) ≡ answer
 
   -- the last takes every name
   last-takes : (at more : ℕ) → more ≡ 1 → shown file (caseThere words (at + caseWidth * (more - 1)) .name) ≡ [] → takes (shown file (caseThere words at .name)) raised ≡ true
@@ -126,22 +126,21 @@ module _ (file raised : List ℕ) (words : List ℤ) (t : ℤ) (answer : ℕ →
   last-is zero = refl
   last-is (suc n) = ne-eqb (suc n) 0 (λ q. absurd (omega (arith, q))) ∙ sym (ne-eqb (suc (suc n)) 1 (λ q. absurd (omega (arith, q))))
 
-  module _ (code types : ℕ) where
-    found-at : (more at : ℕ) → 0 < more → takes (shown file (caseThere words at .name)) raised ≡ true
-        → firstCase code types file raised t (casesThere words more at) ≡ caught code types t (eqb more 1) (caseThere words at .pc)
-    unfolding firstCase
-    found-at zero at h e = absurd (omega arith)
-    found-at (suc n) at h e = rw (e, cases-length words n (at + caseWidth), last-is n)
+  found-at : (more at : ℕ) → 0 < more → takes (shown file (caseThere words at .name)) raised ≡ true
+      → chosenCase file raised t (casesThere words more at) ≡ Case t (eqb more 1) (caseThere words at .pc)
+  unfolding chosenCase
+  found-at zero at h e = absurd (omega arith)
+  found-at (suc n) at h e = rw (e, cases-length words n (at + caseWidth), last-is n)
 
-    passed-by : (more at : ℕ) → 0 < more → takes (shown file (caseThere words at .name)) raised ≡ false
-        → firstCase code types file raised t (casesThere words more at) ≡ firstCase code types file raised t (casesThere words (more - 1) (at + caseWidth))
-    unfolding firstCase
-    passed-by zero at h e = absurd (omega arith)
-    passed-by (suc n) at h e = rw (e, sub-one)
+  passed-by : (more at : ℕ) → 0 < more → takes (shown file (caseThere words at .name)) raised ≡ false
+      → chosenCase file raised t (casesThere words more at) ≡ chosenCase file raised t (casesThere words (more - 1) (at + caseWidth))
+  unfolding chosenCase
+  passed-by zero at h e = absurd (omega arith)
+  passed-by (suc n) at h e = rw (e, sub-one)
 
   module _ {more at : ℕ} (l : Left more at) where
-    pub finds-it : takes (shown file (caseThere words at .name)) raised ≡ true → (code types : ℕ) → caught code types t (eqb more 1) (caseThere words at .pc) ≡ answer code types
-    finds-it e code types = sym (found-at code types more at (l .some) e) ∙ l .finds code types
+    pub finds-it : takes (shown file (caseThere words at .name)) raised ≡ true → Case t (eqb more 1) (caseThere words at .pc) ≡ answer
+    finds-it e = sym (found-at more at (l .some) e) ∙ l .finds
 
     pub goes-on : takes (shown file (caseThere words at .name)) raised ≡ false → Left (more - 1) (at + caseWidth)
     goes-on e =
@@ -152,32 +151,31 @@ module _ (file raised : List ℕ) (words : List ℤ) (t : ℤ) (answer : ℕ →
           some = some;
           room = omega (arith, l .room);
           nameless = rw place (l .nameless);
-          finds = λ code types. sym (passed-by code types more at (l .some) e) ∙ l .finds code types;
+          finds = sym (passed-by more at (l .some) e) ∙ l .finds;
         }
 
 -- ---- a search among what is left of the handlers
 
-module _ (file raised : List ℕ) (words : List ℤ) (pc : ℤ) (answer : ℕ → ℕ → State) where
+module _ (file raised : List ℕ) (words : List ℤ) (pc : ℤ) (answer : Chosen) where
   pub record Among (left here : ℕ) : Type 0 where
     pub all : Whole (many (handledFrom file words) left here)
-    pub finds : (code types : ℕ) → firstHandler code types file raised pc (leading (handledFrom file words) left here) ≡ answer code types
+    pub finds : chosenIn file raised pc (leading (handledFrom file words) left here) ≡ answer
 
-  module _ (code types : ℕ) (h : Handler) (cs : List ExceptionCase) (hs : List Handled) where
-    covered : covers pc h ≡ true → firstHandler code types file raised pc ((h, cs) ∷ hs) ≡ firstCase code types file raised (h .descriptor) cs
-    unfolding firstHandler
+  module _ (h : Handler) (cs : List ExceptionCase) (hs : List Handled) where
+    covered : covers pc h ≡ true → chosenIn file raised pc ((h, cs) ∷ hs) ≡ chosenCase file raised (h .descriptor) cs
+    unfolding chosenIn
     covered e = rw e
 
-    not-covered : covers pc h ≡ false → firstHandler code types file raised pc ((h, cs) ∷ hs) ≡ firstHandler code types file raised pc hs
-    unfolding firstHandler
+    not-covered : covers pc h ≡ false → chosenIn file raised pc ((h, cs) ∷ hs) ≡ chosenIn file raised pc hs
+    unfolding chosenIn
     not-covered e = rw e
 
-  none-left : (code types : ℕ) → firstHandler code types file raised pc [] ≡ Stopped Uncaught
-  unfolding firstHandler
-  none-left code types = refl
+  none-left : chosenIn file raised pc [] ≡ Nothing
+  unfolding chosenIn
+  none-left = refl
 
-  pub uncaught : {left here : ℕ} → Among left here → left ≡ 0 → (code types : ℕ) → Stopped Uncaught ≡ answer code types
-  uncaught {left} {here} a e code types =
-      sym (none-left code types) ∙ sym (ap (firstHandler code types file raised pc) (leading-done (handledFrom file words) left here e)) ∙ a .finds code types
+  pub uncaught : {left here : ℕ} → Among left here → left ≡ 0 → Nothing ≡ answer
+  uncaught {left} {here} a e = sym none-left ∙ sym (ap (chosenIn file raised pc) (leading-done (handledFrom file words) left here e)) ∙ a .finds
 
   -- the handler that stands here
   pub record Here (left here : ℕ) : Type 0 where
@@ -192,8 +190,8 @@ module _ (file raised : List ℕ) (words : List ℤ) (pc : ℤ) (answer : ℕ �
     stands-here : Standing file words here (handlerThere words here) cs q
     stands-here = standing file words here reads
 
-    first : (code types : ℕ) → firstHandler code types file raised pc ((handlerThere words here, cs) ∷ leading (handledFrom file words) (left - 1) q) ≡ answer code types
-    first code types = sym (ap (firstHandler code types file raised pc) (leading-turn (handledFrom file words) left here h reads)) ∙ a .finds code types
+    first : chosenIn file raised pc ((handlerThere words here, cs) ∷ leading (handledFrom file words) (left - 1) q) ≡ answer
+    first = sym (ap (chosenIn file raised pc) (leading-turn (handledFrom file words) left here h reads)) ∙ a .finds
 
     in-it : covers pc (handlerThere words here) ≡ true → Left file raised words (handlerThere words here .descriptor) answer (stands-here .cased .number) (here + handlerWidth)
     in-it e =
@@ -202,15 +200,13 @@ module _ (file raised : List ℕ) (words : List ℤ) (pc : ℤ) (answer : ℕ �
           some = st .cased .least;
           room = omega (arith, st .next, st .room);
           nameless = st .nameless;
-          finds = λ code types.
-              ap (firstCase code types file raised (handlerThere words here .descriptor)) (sym (st .cases-are))
-              ∙ sym (covered code types (handlerThere words here) cs (leading (handledFrom file words) (left - 1) q) e) ∙ first code types;
+          finds = ap (chosenCase file raised (handlerThere words here .descriptor)) (sym (st .cases-are)) ∙ sym (covered (handlerThere words here) cs (leading (handledFrom file words) (left - 1) q) e) ∙ first;
         }
 
     behind-it : covers pc (handlerThere words here) ≡ false → Among (left - 1) q
     behind-it e = record {
       all = whole-next (handledFrom file words) left here (a .all) h reads;
-      finds = λ code types. sym (not-covered code types (handlerThere words here) cs (leading (handledFrom file words) (left - 1) q) e) ∙ first code types;
+      finds = sym (not-covered (handlerThere words here) cs (leading (handledFrom file words) (left - 1) q) e) ∙ first;
     }
 
   pub here-is : {left here : ℕ} → Among left here → 0 < left → Here left here

@@ -11,7 +11,7 @@ ghost use mathlib.Core.Path.{_≡_};
 ghost use Rattle.format.specs.Reading.{many, leading, Whole};
 ghost use Rattle.format.specs.WellFormed.{handledFrom};
 ghost use Rattle.format.specs.Walk as Spec;
-ghost use Rattle.search.specs.Choice.{Chooses};
+ghost use Rattle.search.specs.Choice.{chosenIn};
 
 // begin <= pc < end
 fn covers(handler: Handler, pc: i32) -> bool
@@ -36,7 +36,7 @@ pub enum Chosen {
 // Among n handlers that are known to be good.
 pub fn search(file: &[u8], words: &[i32], n: usize, w: usize, raised: &[u8], pc: i32) -> Chosen
     requires { ⌜ Whole (many (handledFrom (now file) (now words)) n w) ⌝ }
-    ensures { λ r. ⌜ Chooses (now (file .entry)) (now (raised .entry)) pc (leading (handledFrom (now (file .entry)) (now (words .entry))) n w) r ⌝ }
+    ensures { λ r. ⌜ r ≡ chosenIn (now (file .entry)) (now (raised .entry)) pc (leading (handledFrom (now (file .entry)) (now (words .entry))) n w) ⌝ }
 {
     let mut chosen = Chosen::Nothing;
     let mut here = w;

@@ -7,21 +7,21 @@ use denote.Ref.{now}
 use lib.IntN.{ℤ, pos}
 use mir.Syntax.{w32}
 use mir.Val.{toZ, ofZ}
-use Rattle.format.specs.declared.walk.State.{State}
 use Rattle.format.specs.Reading.{leading}
 use Rattle.format.specs.WellFormed.{handledFrom}
-use Rattle.format.specs.Walk.{firstHandler}
 use Rattle.bits.proofs.Signs.{kept}
 use Rattle.laws.proofs.Groups.{cases-are}
+use Rattle.search.specs.declared.Chosen.{Chosen}
 use Rattle.search.specs.declared.Chosen.the-variants.{Nothing}
+use Rattle.search.specs.Choice.{chosenIn}
 use Rattle.search.proofs.Cases.{Left, Among, Here, here-is, finds-it, goes-on, uncaught}
 use borrow.Author.Needs.{needs}
 use Rattle.search.proofs.search.Statement.{statement}
 use Rattle.search.proofs.search.Tie as tie
 
 -- what the search of all finds
-abbrev answer : List ℕ → List ℤ → ℕ → ℕ → List ℕ → ℕ → ℕ → ℕ → State
-answer file words n w raised pc code types = firstHandler code types file raised (toZ w32 pc) (leading (handledFrom file words) n w)
+abbrev answer : List ℕ → List ℤ → ℕ → ℕ → List ℕ → ℕ → Chosen
+answer file words n w raised pc = chosenIn file raised (toZ w32 pc) (leading (handledFrom file words) n w)
 
 abbrev Inv-loop : tie.InvT-loop
 Inv-loop file words n w raised pc here left handler cases at₀ more₀ at more = Left file raised words (handler .descriptor) (answer file words n w raised pc) more at
@@ -36,7 +36,7 @@ abbrev μ-search : tie.MeasureT-search
 μ-search file words n w raised pc chosen₀ here₀ left₀ chosen here left = left
 
 search-holds : tie.Need-search-holds Inv-loop μ-loop Inv-search μ-search
-search-holds c = (refl, record { all = c .before .before .pre; finds = λ code types. refl })
+search-holds c = (refl, record { all = c .before .before .pre; finds = refl })
 
 -- the handler that stands here
 module _ (c : tie.In-search Inv-loop μ-loop Inv-search μ-search) where
@@ -95,13 +95,13 @@ search-again c =
     (h .before .before .search .inv .0, rw (count h, ← s .stands .next) (s .outside outside))
 
 returns : tie.Need-returns Inv-loop μ-loop Inv-search μ-search
-returns c code types =
+returns c =
     let i = c .before .search in
     let a = c .before .before .before .before in
-    rw (i .inv .0) (rw (kept (a .args .pc) (a .fits .pc .sfits)) at (uncaught _ _ _ _ _ (i .inv .1) (omega (arith, c .search-test .left)) code types))
+    rw (i .inv .0) (rw (kept (a .args .pc) (a .fits .pc .sfits)) at (uncaught _ _ _ _ _ (i .inv .1) (omega (arith, c .search-test .left))))
 
 returns-2 : tie.Need-returns-2 Inv-loop μ-loop Inv-search μ-search
-returns-2 c code types =
+returns-2 c =
     let t = c .before .before in
     let k = t .before .before in
     let h = k .before .before .before .before .before .before in
@@ -109,7 +109,7 @@ returns-2 c code types =
     let e = k .case-there .ensures in
     let takes = sym (rw e at (t .before .case-takes .ensures)) ∙ t .if2 .taken in
     rw (kept (h .handler-there .result .descriptor) (omega (arith, c .before .struct-told2)), kept (k .case-there .result .pc) (omega (arith, c .struct-told3)), e)
-    (rw (kept (a .args .pc) (a .fits .pc .sfits)) at (finds-it _ _ _ _ _ (k .before .loop .inv) takes code types))
+    (rw (kept (a .args .pc) (a .fits .pc .sfits)) at (finds-it _ _ _ _ _ (k .before .loop .inv) takes))
 
 pub search-spec : {M : Type 1} → statement M
 search-spec =

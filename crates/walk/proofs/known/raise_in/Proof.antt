@@ -1,6 +1,8 @@
-use mathlib.Core.Path.{sym, _∙_}
+use mathlib.Core.Path.{sym, ap, _∙_}
 use Rattle.bits.proofs.Signs.{kept}
 use Rattle.moves.specs.Stands.{Here}
+use Rattle.search.specs.Choice.{leadsTo}
+use Rattle.search.proofs.Leads.{chosen-leads}
 use borrow.Author.Needs.{needs}
 use Rattle.walk.proofs.known.raise_in.Statement.{statement}
 use Rattle.walk.proofs.known.raise_in.Tie as tie
@@ -18,8 +20,8 @@ returns-2 : tie.Need-returns-2
 returns-2 c =
     let k = c .before .before .before in
     let a = k .before .before .before .before .before .before .before .args in
-    let chosen = rw (c .enum-told .given .1) at (c .before .before .search .ensures) in
-    rw (kept (k .before .pc .given .0 .0) (k .known-told2 .given .0 .1)) at (chosen (a .places .counts .code) (a .places .counts .types)) ∙ sym (here k .goes _)
+    let chosen = sym (c .enum-told .given .1) ∙ rw (kept (k .before .pc .given .0 .0) (k .known-told2 .given .0 .1)) at (c .before .before .search .ensures) in
+    ap (leadsTo (a .places .counts .code) (a .places .counts .types)) chosen ∙ chosen-leads _ _ _ _ _ _ ∙ sym (here k .goes _)
 
 returns-3 : tie.Need-returns-3
 returns-3 c =
@@ -27,9 +29,9 @@ returns-3 c =
     let a = k .before .before .before .before .before .before .before .args in
     let d = c .before .before .descriptor .given in
     let told = c .before .known-told3 .given in
-    let chosen = rw (d .1) at (c .before .before .before .before .search .ensures) in
+    let chosen = sym (d .1) ∙ rw (kept (k .before .pc .given .0 .0) (k .known-told2 .given .0 .1)) at (c .before .before .before .before .search .ensures) in
     rw (kept (d .0 .0) (told .0 .1), kept (d .0 .1 .1 .0) (told .1 .1 .0 .1)) at (c .caught .ensures)
-    ∙ rw (kept (k .before .pc .given .0 .0) (k .known-told2 .given .0 .1)) at (chosen (a .places .counts .code) (a .places .counts .types)) ∙ sym (here k .goes _)
+    ∙ ap (leadsTo (a .places .counts .code) (a .places .counts .types)) chosen ∙ chosen-leads _ _ _ _ _ _ ∙ sym (here k .goes _)
 
 pub raise-in-spec : {M : Type 1} → statement M
 raise-in-spec =
