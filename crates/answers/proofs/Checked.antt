@@ -47,7 +47,7 @@ not-both : {P A : Type 0} {s : Step P A} {a : A} {q : P} {why : Refusal} → s �
 not-both {s = s} x y = let z : _≡_ {A = ℕ} 0 1 = cc in absurd (omega arith)
 
 module _ (m : Module) (file : List ℕ) (words : List ℤ) where
-  check-same : (r s : Checked) → CheckSays m file words r → CheckSays m file words s → r ≡ s
+  pub check-same : (r s : Checked) → CheckSays m file words r → CheckSays m file words s → r ≡ s
   check-same (Checked-is.Good p) (Checked-is.Good q) a b =
       let both : some (p .counts) ≡ some (q .counts) = sym (a .counts) ∙ b .counts in
       let counts : p .counts ≡ q .counts = cc in

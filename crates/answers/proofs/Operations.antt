@@ -83,7 +83,7 @@ use Rattle.answers.proofs.Views.{byRead, byte-kept, number-kept, spanGo
 -- ---- the whole
 
 pub load-once : Once {S = LoadAnswer × List ℤ} load.Learnt (λ κs r v. (r, now (v .1 .0)))
-load-once κs a r s v w p q = one-of p q
+load-once κs a r s v w p q = one-of (p .0) (q .0)
 
 pub write-once : Once {S = WriteAnswer × List ℕ} write.Learnt (λ κs r v. (r, now (v .1 .1 .1 .0)))
 write-once κs a r s v w p q = one-of p q

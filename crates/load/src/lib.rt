@@ -23,6 +23,7 @@ ghost use Rattle.format.specs.Load.{loadOf};
 ghost use Rattle.format.specs.Reading as Spec;
 ghost use Rattle.format.specs.Records.{sizeLimit};
 ghost use Rattle.format.specs.Sections.{parse};
+ghost use Rattle.laws.proofs.OperandBack.{Bytes};
 ghost use Rattle.load.specs.Whole.{Surveyed, besides};
 
 // What comes beside the words.
@@ -73,8 +74,10 @@ fn load_surveyed(
     }
 }
 
+// The second clause tells a caller what every lent file is and a list of numbers does not say: bytes.
 pub fn load(file: &[u8], words: &mut [i32]) -> LoadAnswer
     ensures { λ r. ⌜ loadOf (now (file .entry)) (now (words .entry)) ≡ (r, now (words .exit)) ⌝ }
+    ensures bytes { λ r. ⌜ Bytes (now (file .entry)) ⌝ }
 {
     if FILE_LIMIT < file.len() {
         return LoadAnswer::Refused(Refusal::TooLarge);

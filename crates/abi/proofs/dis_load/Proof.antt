@@ -25,7 +25,7 @@ returns-2 : tie.Need-returns-2
 returns-2 c =
     let p = c .before .before in
     let l = p .before .before in
-    load-done _ _ _ _ (is-enough (l .before .before .before .before)) (l .load .ensures) (p .put-loaded .ensures .0) (p .put-loaded .ensures .1)
+    load-done _ _ _ _ (is-enough (l .before .before .before .before)) (l .load .ensures .0) (p .put-loaded .ensures .0) (p .put-loaded .ensures .1)
 
 pub dis-load-spec : {M : Type 1} → statement M
 dis-load-spec =

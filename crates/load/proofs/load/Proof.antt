@@ -3,11 +3,16 @@ use denote.Ref.{now}
 use borrow.Author.Needs.{needs}
 use Rattle.survey.specs.Survey.{FrontSays, MiddleSays, BackSays, FrontIs, MiddleIs, BackIs}
 use Rattle.laws.proofs.Loads.{load-large, load-parse}
+use Rattle.laws.proofs.OperandBack.{Bytes}
 use Rattle.load.proofs.load.Statement.{statement}
 use Rattle.load.proofs.load.Tie as tie
 
+-- what is known of the file on entry
+bytes : (c : tie.After-shared-slice-known) → Bytes (now (c .before .args .file))
+bytes c i = c .shared-slice-known .given i .fits
+
 returns : tie.Need-returns
-returns c = load-large _ _ (c .if1 .taken)
+returns c = (load-large _ _ (c .if1 .taken), bytes (c .before))
 
 -- what each part of the survey found
 front-is : (c : tie.After-front) → FrontIs (now (c .before .before .before .before .before .args .file)) (c .front .given .0 .0)
@@ -34,18 +39,21 @@ load-surveyed-requires c κs =
 returns-2 : tie.Need-returns-2
 returns-2 c =
     let w = c .before in
-    load-parse _ _ (w .before .before .before .if1 .left) (subst (FrontSays (now (w .before .before .before .before .before .args .file))) (w .why .given .1) (w .before .before .survey-front .ensures))
+    (load-parse _ _ (w .before .before .before .if1 .left) (subst (FrontSays (now (w .before .before .before .before .before .args .file))) (w .why .given .1) (w .before .before .survey-front .ensures)), bytes (w .before .before .before .before))
 
 returns-3 : tie.Need-returns-3
 returns-3 c =
     let w = c .before in
-    load-parse _ _ (w .before .before .before .before .before .before .before .if1 .left) (subst (MiddleSays (now (w .before .before .before .before .before .before .before .before .before .args .file)) (w .before .before .before .before .front .given .0 .0)) (w .why2 .given .1) (w .before .before .survey-middle .ensures))
+    (load-parse _ _ (w .before .before .before .before .before .before .before .if1 .left) (subst (MiddleSays (now (w .before .before .before .before .before .before .before .before .before .args .file)) (w .before .before .before .before .front .given .0 .0)) (w .why2 .given .1) (w .before .before .survey-middle .ensures)), bytes (w .before .before .before .before .before .before .before .before))
 
 returns-4 : tie.Need-returns-4
 returns-4 c =
     let w = c .before in
-    load-parse _ _ (w .before .before .before .before .before .before .before .before .before .before .before .if1 .left)
-    (subst (BackSays (now (w .before .before .before .before .before .before .before .before .before .before .before .before .before .args .file)) (w .before .before .before .before .before .before .before .before .front .given .0 .0) (w .before .before .before .before .middle .given .0 .0)) (w .why3 .given .1) (w .before .before .survey-back .ensures))
+    (load-parse _ _ (w .before .before .before .before .before .before .before .before .before .before .before .if1 .left)
+    (subst (BackSays (now (w .before .before .before .before .before .before .before .before .before .before .before .before .before .args .file)) (w .before .before .before .before .before .before .before .before .front .given .0 .0) (w .before .before .before .before .middle .given .0 .0)) (w .why3 .given .1) (w .before .before .survey-back .ensures)), bytes (w .before .before .before .before .before .before .before .before .before .before .before .before))
+
+returns-5 : tie.Need-returns-5
+returns-5 c = (search needs, bytes (c .before .before .before .before .before .before .before .before .before .before .before .before .before .before .before .before))
 
 pub load-spec : {M : Type 1} → statement M
 load-spec =
@@ -66,4 +74,4 @@ load-spec =
     returns-3
     returns-4
     (λ c. search needs)
-    (λ c. search needs))
+    returns-5)
