@@ -40,78 +40,83 @@ pub record Call {L S T : Type 0} {A R E : L → Type 0} (Contract : (κs : L) �
 abbrev pub Load : List ℕ × List ℤ → LoadAnswer × List ℤ → Type 0
 Load = Call load.Learnt (λ κs a. (now (a .0), now (a .1 .0))) (λ κs r v. (r, now (v .1 .0)))
 
--- a module, its file and words, and an output; the answer, and the output afterwards
-abbrev pub Write : Module × List ℕ × List ℤ × List ℕ → WriteAnswer × List ℕ → Type 0
-Write = Call write.Learnt (λ κs a. (a .0, now (a .1 .0), now (a .1 .1 .0), now (a .1 .1 .1 .0))) (λ κs r v. (r, now (v .1 .1 .1 .0)))
+-- a module, its file and its words
+abbrev pub Tables : Type 0
+Tables = Module × List ℕ × List ℤ
 
-abbrev pub Check : Module × List ℕ × List ℤ → Checked → Type 0
+abbrev pub Check : Tables → Checked → Type 0
 Check = Call check.Learnt (λ κs a. (a .0, now (a .1 .0), now (a .1 .1 .0))) (λ κs r v. r)
 
--- a module, its file and words, what the event brings, and the state
-abbrev pub Entry : Module × List ℕ × List ℤ × State → WalkAnswer → Type 0
-Entry = Call entry.Learnt (λ κs a. (a .0, now (a .1 .0), now (a .1 .1 .0), a .1 .1 .1 .0)) (λ κs r v. r)
+-- tables and an output; the answer, and the output afterwards
+abbrev pub Write : Tables × List ℕ → WriteAnswer × List ℕ → Type 0
+Write = Call write.Learnt (λ κs a. ((a .0, now (a .1 .0), now (a .1 .1 .0)), now (a .1 .1 .1 .0))) (λ κs r v. (r, now (v .1 .1 .1 .0)))
 
-abbrev pub Export : Module × List ℕ × List ℤ × ℕ × State → WalkAnswer → Type 0
-Export = Call export.Learnt (λ κs a. (a .0, now (a .1 .0), now (a .1 .1 .0), a .1 .1 .1 .0, a .1 .1 .1 .1 .0)) (λ κs r v. r)
+-- tables, what the event brings, and a state
+abbrev pub Entry : Tables × State → WalkAnswer → Type 0
+Entry = Call entry.Learnt (λ κs a. ((a .0, now (a .1 .0), now (a .1 .1 .0)), a .1 .1 .1 .0)) (λ κs r v. r)
 
-abbrev pub Next : Module × List ℕ × List ℤ × State → WalkAnswer → Type 0
-Next = Call next.Learnt (λ κs a. (a .0, now (a .1 .0), now (a .1 .1 .0), a .1 .1 .1 .0)) (λ κs r v. r)
+abbrev pub Export : Tables × ℕ × State → WalkAnswer → Type 0
+Export = Call export.Learnt (λ κs a. ((a .0, now (a .1 .0), now (a .1 .1 .0)), a .1 .1 .1 .0, a .1 .1 .1 .1 .0)) (λ κs r v. r)
 
-abbrev pub Raise : Module × List ℕ × List ℤ × List ℕ × State → WalkAnswer → Type 0
-Raise = Call raise.Learnt (λ κs a. (a .0, now (a .1 .0), now (a .1 .1 .0), now (a .1 .1 .1 .0), a .1 .1 .1 .1 .0)) (λ κs r v. r)
+abbrev pub Next : Tables × State → WalkAnswer → Type 0
+Next = Call next.Learnt (λ κs a. ((a .0, now (a .1 .0), now (a .1 .1 .0)), a .1 .1 .1 .0)) (λ κs r v. r)
 
--- ---- an event is a call of the function of its name
+abbrev pub Raise : Tables × List ℕ × State → WalkAnswer → Type 0
+Raise = Call raise.Learnt (λ κs a. ((a .0, now (a .1 .0), now (a .1 .1 .0)), now (a .1 .1 .1 .0), a .1 .1 .1 .1 .0)) (λ κs r v. r)
 
-module _ (m : Module) (file : List ℕ) (words : List ℤ) where
-  abbrev pub Happens : Event → State → WalkAnswer → Type 0
-  Happens Walk.entry s = Entry (m, file, words, s)
-  Happens (Walk.export k) s = Export (m, file, words, k, s)
-  Happens Walk.next s = Next (m, file, words, s)
-  Happens (Walk.raise name) s = Raise (m, file, words, name, s)
+-- ---- the walk
 
-  -- events one after the other, each called with the state that the call before it handed back: their answers, and the state after them
-  abbrev pub Run : List Event → State → List WalkAnswer → State → Type 0
-  Run [] s [] end = s ≡ end
-  Run [] s (a ∷ rest) end = ⊥
-  Run (e ∷ es) s [] end = ⊥
-  Run (e ∷ es) s (a ∷ rest) end = Happens e s a × Run es (stateOf a) rest end
+-- an event is a call of the function of its name
+abbrev pub Happens : Tables → Event → State → WalkAnswer → Type 0
+Happens t Walk.entry s = Entry (t, s)
+Happens t (Walk.export k) s = Export (t, k, s)
+Happens t Walk.next s = Next (t, s)
+Happens t (Walk.raise name) s = Raise (t, name, s)
 
--- ---- they are the definitions
+-- events one after the other, each called with the state that the call before it handed back: their answers, and the state after them
+abbrev pub Run : Tables → List Event → State → List WalkAnswer → State → Type 0
+Run t [] s [] end = s ≡ end
+Run t [] s (a ∷ rest) end = ⊥
+Run t (e ∷ es) s [] end = ⊥
+Run t (e ∷ es) s (a ∷ rest) end = Happens t e s a × Run t es (stateOf a) rest end
 
--- what a contract says of the arguments it says of what was handed in and came back
+-- ---- what a contract says of the arguments it says of what was handed in and came back
+
 module _ {L S T : Type 0} {A R E : L → Type 0} {Contract : (κs : L) → A κs → R κs → E κs → Type 0} {handed : (κs : L) → A κs → S} {back : (κs : L) → R κs → E κs → T} where
   called : (Says : S → T → Type 0) → ((κs : L) (a : A κs) (r : R κs) (v : E κs) → Contract κs a r v → Says (handed κs a) (back κs r v))
       → {given : S} {found : T} → Call Contract handed back given found → Says given found
   called Says says {given} {found} c =
       subst (λ x. Says x found) (c .is-given) (subst (Says (handed (c .lifetimes) (c .arguments))) (c .is-found) (says (c .lifetimes) (c .arguments) (c .answer) (c .exit) (c .holds)))
 
-pub load-is : {file : List ℕ} {words left : List ℤ} {answer : LoadAnswer} → Load (file, words) (answer, left) → loadOf file words ≡ (answer, left)
-load-is = called (λ x y. loadOf (x .0) (x .1) ≡ y) (λ κs a r v h. h .0)
+module _ {file : List ℕ} {words left : List ℤ} {answer : LoadAnswer} where
+  pub load-is : Load (file, words) (answer, left) → loadOf file words ≡ (answer, left)
+  load-is = called (λ x y. loadOf (x .0) (x .1) ≡ y) (λ κs a r v h. h .0)
 
--- and a file that can be handed in is bytes
-pub load-bytes : {file : List ℕ} {words left : List ℤ} {answer : LoadAnswer} → Load (file, words) (answer, left) → Bytes file
-load-bytes = called (λ x y. Bytes (x .0)) (λ κs a r v h. h .1)
+  -- a file that can be handed in is bytes
+  pub load-bytes : Load (file, words) (answer, left) → Bytes file
+  load-bytes = called (λ x y. Bytes (x .0)) (λ κs a r v h. h .1)
 
-pub write-is : {m : Module} {file : List ℕ} {words : List ℤ} {out left : List ℕ} {answer : WriteAnswer} → Write (m, file, words, out) (answer, left)
-    → writeOf m file words out ≡ (answer, left)
-write-is = called (λ x y. writeOf (x .0) (x .1) (x .2) (x .3) ≡ y) (λ κs a r v h. h)
+pub check-is : {t : Tables} {answer : Checked} → Check t answer → CheckSays (t .0) (t .1) (t .2) answer
+check-is = called (λ t y. CheckSays (t .0) (t .1) (t .2) y) (λ κs a r v h. h)
 
-module _ (m : Module) (file : List ℕ) (words : List ℤ) where
-  pub check-is : (answer : Checked) → Check (m, file, words) answer → CheckSays m file words answer
-  check-is answer = called (λ x y. CheckSays (x .0) (x .1) (x .2) y) (λ κs a r v h. h)
+pub write-is : {t : Tables} {out left : List ℕ} {answer : WriteAnswer} → Write (t, out) (answer, left) → writeOf (t .0) (t .1) (t .2) out ≡ (answer, left)
+write-is = called (λ x y. writeOf (x .0 .0) (x .0 .1) (x .0 .2) (x .1) ≡ y) (λ κs a r v h. h)
 
-  pub happens-is : (event : Event) (s : State) (answer : WalkAnswer) → Happens m file words event s answer → walkOf m file words event s ≡ answer
-  happens-is Walk.entry s answer = called (λ x y. walkOf (x .0) (x .1) (x .2) Walk.entry (x .3) ≡ y) (λ κs a r v h. h)
-  happens-is (Walk.export k) s answer = called (λ x y. walkOf (x .0) (x .1) (x .2) (Walk.export (x .3)) (x .4) ≡ y) (λ κs a r v h. h)
-  happens-is Walk.next s answer = called (λ x y. walkOf (x .0) (x .1) (x .2) Walk.next (x .3) ≡ y) (λ κs a r v h. h)
-  happens-is (Walk.raise name) s answer = called (λ x y. walkOf (x .0) (x .1) (x .2) (Walk.raise (x .3)) (x .4) ≡ y) (λ κs a r v h. h)
+abbrev pub walk : Tables → Event → State → WalkAnswer
+walk t = walkOf (t .0) (t .1) (t .2)
 
-  -- so that a run of calls is the definition's walk
-  pub run-is : (events : List Event) (s : State) (told : List WalkAnswer) (end : State) → Run m file words events s told end
-      → (answers (walkOf m file words) events s ≡ told) × (after (walkOf m file words) events s ≡ end)
-  run-is [] s [] end r = (refl, r)
-  run-is [] s (a ∷ rest) end r = absurd r
-  run-is (e ∷ es) s [] end r = absurd r
-  run-is (e ∷ es) s (a ∷ rest) end r =
-      let later = run-is es (stateOf a) rest end (r .1) in
-      rw (happens-is e s a (r .0)) (ap (a ∷_) (later .0), later .1)
+pub happens-is : (t : Tables) (event : Event) (s : State) (answer : WalkAnswer) → Happens t event s answer → walk t event s ≡ answer
+happens-is t Walk.entry s answer = called (λ x y. walk (x .0) Walk.entry (x .1) ≡ y) (λ κs a r v h. h)
+happens-is t (Walk.export k) s answer = called (λ x y. walk (x .0) (Walk.export (x .1)) (x .2) ≡ y) (λ κs a r v h. h)
+happens-is t Walk.next s answer = called (λ x y. walk (x .0) Walk.next (x .1) ≡ y) (λ κs a r v h. h)
+happens-is t (Walk.raise name) s answer = called (λ x y. walk (x .0) (Walk.raise (x .1)) (x .2) ≡ y) (λ κs a r v h. h)
+
+-- so that a run of calls is the definition's walk
+pub run-is : (t : Tables) (events : List Event) (s : State) (told : List WalkAnswer) (end : State) → Run t events s told end
+    → (answers (walk t) events s ≡ told) × (after (walk t) events s ≡ end)
+run-is t [] s [] end r = (refl, r)
+run-is t [] s (a ∷ rest) end r = absurd r
+run-is t (e ∷ es) s [] end r = absurd r
+run-is t (e ∷ es) s (a ∷ rest) end r =
+    let later = run-is t es (stateOf a) rest end (r .1) in
+    rw (happens-is t e s a (r .0)) (ap (a ∷_) (later .0), later .1)
