@@ -4,12 +4,13 @@
 use Prim.Native.Nat.{ℕ}
 use mathlib.Core.Path.{_≡_, sym, ap, _∙_}
 use mathlib.Core.List.{List}
+use mathlib.Core.Option.{none}
 use lib.IntN.{ℤ}
-use Rattle.laws.proofs.Types.{LoadAnswer, WriteAnswer, State, WalkAnswer, Refusal}
+use Rattle.laws.proofs.Types.{LoadAnswer, WriteAnswer, State, WalkAnswer, Refusal, NoExport}
 use Rattle.format.specs.declared.module.LoadAnswer.the-variants as L
 use Rattle.format.specs.declared.module.WriteAnswer.the-variants as W
 use Rattle.format.specs.declared.walk.WalkAnswer.the-variants as A
-use Rattle.format.specs.Walk.{Event}
+use Rattle.format.specs.Walk.{Event, export}
 use Rattle.tables.specs.declared.Checked.{Checked}
 use Rattle.laws.proofs.Loads.{refused-leaves}
 use Rattle.laws.proofs.Writes.{write-leaves}
@@ -17,7 +18,7 @@ use Rattle.walked.proofs.Rules.{refusal-keeps}
 use Rattle.answers.proofs.Checked.{check-same}
 use Rattle.demands.proofs.Calls.{Tables, Load, Check, Write, Happens, load-is, check-is, write-is, happens-is}
 use Rattle.demands.proofs.Open.{AllOpen, all-open}
-use Rattle.demands.proofs.Firsts.{loadWhy, checkWhy, writeWhy, walkWhy, loadRefusal, checkRefusal, writeRefusal, eventRefusal, load-first, check-first, write-first, event-first}
+use Rattle.demands.proofs.Refusals.{loadWhy, checkWhy, writeWhy, walkWhy, loadRefusal, checkRefusal, writeRefusal, eventRefusal, load-first, check-first, write-first, event-first, event-absent}
 
 pub record Demand1 : Type 2 where
   -- "Any bytes, tables and buffers may be handed in."
@@ -40,6 +41,10 @@ pub record Demand1 : Type 2 where
   pub write-leaves : {t : Tables} {out left : List ℕ} {why : Refusal} → Write (t, out) (W.Refused why, left) → left ≡ out
   pub event-leaves : (t : Tables) (event : Event) (s left : State) (why : Refusal) → Happens t event s (A.Refused why left) → left ≡ s
 
+  -- over well-formed tables an event is refused by 25 alone, for an export that is absent
+  pub event-absent : (t : Tables) (event : Event) (s left : State) (why : Refusal) → checkRefusal t ≡ none → Happens t event s (A.Refused why left)
+      → (k : ℕ) × (event ≡ export k) × (why ≡ NoExport k)
+
 pub demand-1 : Demand1
 demand-1 = record {
   any-may-be-handed-in = all-open;
@@ -54,4 +59,5 @@ demand-1 = record {
   load-leaves = λ {file} {words} c. refused-leaves words file (load-is c);
   write-leaves = λ {t} {out} {left} {why} c. write-leaves (t .0) (t .1) (t .2) out (W.Refused why) left (write-is c);
   event-leaves = λ t event s left why c. refusal-keeps (t .0) (t .1) (t .2) event s left (happens-is t event s (A.Refused why left) c);
+  event-absent = λ t event s left why good c. event-absent t event s left good (happens-is t event s (A.Refused why left) c);
 }

@@ -1,6 +1,6 @@
 -- Demand 3: "For any accepted file, no sequence of entries, steps and raised exceptions ever reaches 'broken'; written and loaded again, the module is
 -- accepted and every sequence gives the same walk."
--- Said of calls of the code: of load, of the events over the words that it left, of write, and of load again.
+-- It is said of calls of the code: of load, of the events over the words that it left, of write, and of load again.
 -- Assumes nothing.
 use Prim.Native.Nat.{ℕ, _≤_}
 use mathlib.Core.Path.{_≡_, sym, ap, _∙_}
@@ -15,7 +15,6 @@ use Rattle.format.specs.declared.walk.State.the-variants.{Idle}
 use Rattle.format.specs.Reading.{got, front}
 use Rattle.format.specs.Put.{put}
 use Rattle.format.specs.Records.{Records, moduleOf, sizeLimit}
-use Rattle.format.specs.Words.{tableWords}
 use Rattle.format.specs.Sections.{parse}
 use Rattle.format.specs.Content.{contentOf}
 use Rattle.format.specs.Writing.{encode}
@@ -23,11 +22,11 @@ use Rattle.format.specs.Walk.{Event, answers, after}
 use Rattle.laws.proofs.Loads.{Accepted, accepted}
 use Rattle.laws.proofs.Many.{All}
 use Rattle.laws.proofs.OperandBack.{Bytes}
-use Rattle.loaded.proofs.Leaves.{loaded-records, loaded-written, result}
-use Rattle.reload.proofs.Again.{Says, records-same, loaded-again}
+use Rattle.loaded.proofs.Leaves.{loaded-written, result}
+use Rattle.reload.proofs.Again.{loaded-again}
 use Rattle.walked.proofs.Had.{Had}
 use Rattle.walked.proofs.Unbroken.{Fine, never-broken, always-fine}
-use Rattle.walked.proofs.Same.{same-tables}
+use Rattle.walked.proofs.Same.{walks-alike}
 use Rattle.demands.proofs.Calls.{Tables, Load, Write, Run, walk, load-is, load-bytes, write-is, run-is}
 
 -- no run of calls from idle answers "broken" or ends there: each answer is a state that the module has, or 25 in one
@@ -40,21 +39,22 @@ abbrev pub SameWalk : Tables → Tables → Type 0
 SameWalk t u = (events : List Event) (s : State) (told told′ : List WalkAnswer) (end end′ : State)
     → Run t events s told end → Run u events s told′ end′ → (told ≡ told′) × (end ≡ end′)
 
--- tables that say these bytes, and need so many words, written and loaded again
-pub record Again (t : Tables) (needed : ℕ) (bytes : List ℕ) : Type 0 where
-  -- they are inside the size limit and the output has room: they are written, and behind them the output is as it was
-  pub writes : length bytes ≤ sizeLimit → {out left : List ℕ} {answer : WriteAnswer} → length bytes ≤ length out → Write (t, out) (answer, left)
+-- tables whose module is written as these bytes, and fills so many words
+pub record Again (t : Tables) (bytes : List ℕ) (needed : ℕ) : Type 0 where
+  -- where the size limit spares them and the output has room they are written, and behind them the output stays
+  pub writes : {out left : List ℕ} {answer : WriteAnswer} → length bytes ≤ sizeLimit → length bytes ≤ length out → Write (t, out) (answer, left)
       → (answer ≡ Written (length bytes)) × (left ≡ bytes ++ drop (length bytes) out)
-  -- the new file, with whatever stands behind them, is inside the size limit and the new words have room: it is accepted, and walks as before
-  pub loads : (behind : List ℕ) → length (bytes ++ behind) ≤ sizeLimit → {words left : List ℤ} {answer : LoadAnswer} → needed ≤ length words → Load (bytes ++ behind, words) (answer, left)
+  -- a file that begins with them, where the size limit spares it and the new words have room, is accepted, and walks as before
+  pub loads : (behind : List ℕ) {words left : List ℤ} {answer : LoadAnswer} → length (bytes ++ behind) ≤ sizeLimit → needed ≤ length words → Load (bytes ++ behind, words) (answer, left)
       → (m : Module) × (answer ≡ Loaded m (length bytes) needed) × SameWalk t (m, bytes ++ behind, left)
 
+-- of a load that answered so: a module, the file that it was read from, the words that it was left in, and how many they are
 pub record Demand3 (m : Module) (file : List ℕ) (words : List ℤ) (needed : ℕ) : Type 0 where
   pub unbroken : NeverBroken (m, file, words)
   pub records : Records
   pub end : Cursor
   pub reads : parse file front ≡ got records end
-  pub again : Again (m, file, words) needed (encode (contentOf file records))
+  pub again : Again (m, file, words) (encode (contentOf file records)) needed
 
 -- ---- the proof
 
@@ -65,28 +65,21 @@ same-runs t u same events s told told′ end end′ r r′ =
     (sym (x .0) ∙ ap (λ (w : Event → State → WalkAnswer). answers w events s) same ∙ y .0, sym (x .1) ∙ ap (λ (w : Event → State → WalkAnswer). after w events s) same ∙ y .1)
 
 module _ {file : List ℕ} {words now : List ℤ} {m : Module} {used needed : ℕ} (a : Accepted file words m used needed now) (bytes : Bytes file) where
-  written : length (result a) ≤ sizeLimit → {out left : List ℕ} {answer : WriteAnswer} → length (result a) ≤ length out → Write ((m, file, now), out) (answer, left)
+  written : {out left : List ℕ} {answer : WriteAnswer} → length (result a) ≤ sizeLimit → length (result a) ≤ length out → Write ((m, file, now), out) (answer, left)
       → (answer ≡ Written (length (result a))) × (left ≡ result a ++ drop (length (result a)) out)
   unfolding put
-  written small {out} room w =
-      let both = sym (write-is w) ∙ loaded-written a bytes out small room in
+  written {out} small room c =
+      let both = sym (write-is c) ∙ loaded-written a bytes out small room in
       (ap (λ (x : WriteAnswer × List ℕ). x .0) both, ap (λ (x : WriteAnswer × List ℕ). x .1) both ∙ rw zero-add)
 
-  module _ (behind : List ℕ) (small : length (result a ++ behind) ≤ sizeLimit) (again : List ℤ) (room : needed ≤ length again) where
-    second : Says (contentOf file (a .records)) (result a ++ behind) again (length (result a)) needed
-    second = loaded-again a bytes behind small again room
+  loaded : (behind : List ℕ) {again left : List ℤ} {answer : LoadAnswer} → length (result a ++ behind) ≤ sizeLimit → needed ≤ length again
+      → Load (result a ++ behind, again) (answer, left) → (m′ : Module) × (answer ≡ Loaded m′ (length (result a)) needed) × SameWalk (m, file, now) (m′, result a ++ behind, left)
+  loaded behind {again} small room c =
+      let second = loaded-again a bytes behind small again room in
+      let both = sym (load-is c) ∙ second .loads in
+      (moduleOf (second .records), ap (λ (x : LoadAnswer × List ℤ). x .0) both, rw (ap (λ (x : LoadAnswer × List ℤ). x .1) both) (same-runs _ _ (walks-alike a second)))
 
-    walks-alike : walk (m, file, now) ≡ walk (moduleOf (second .records), result a ++ behind, put 0 (tableWords (second .records)) again)
-    walks-alike =
-        let b = accepted (result a ++ behind) again (second .loads) in
-        let says = ap (contentOf (result a ++ behind)) (records-same second b) ∙ second .same in
-        same-tables file (result a ++ behind) (a .records) (b .records) (sym says) m _ now _ (loaded-records a) (loaded-records b)
-
-    loaded : {left : List ℤ} {answer : LoadAnswer} → Load (result a ++ behind, again) (answer, left)
-        → (m′ : Module) × (answer ≡ Loaded m′ (length (result a)) needed) × SameWalk (m, file, now) (m′, result a ++ behind, left)
-    loaded l =
-        let both = sym (load-is l) ∙ second .loads in
-        (moduleOf (second .records), ap (λ (x : LoadAnswer × List ℤ). x .0) both, rw (ap (λ (x : LoadAnswer × List ℤ). x .1) both) (same-runs _ _ walks-alike))
+-- ---- for any accepted file
 
 pub demand-3 : {file : List ℕ} {words left : List ℤ} {m : Module} {used needed : ℕ} → Load (file, words) (Loaded m used needed, left) → Demand3 m file left needed
 demand-3 {file} {words} {left} {m} c =
@@ -99,8 +92,5 @@ demand-3 {file} {words} {left} {m} c =
       records = a .records;
       end = a .end;
       reads = a .reads;
-      again = record {
-        writes = written a (load-bytes c);
-        loads = λ behind small {words = again} room l. loaded a (load-bytes c) behind small again room l;
-      };
+      again = record { writes = written a (load-bytes c); loads = loaded a (load-bytes c) };
     }

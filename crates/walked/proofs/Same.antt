@@ -18,11 +18,11 @@ use Rattle.format.specs.WellFormed.{recordsOf}
 use Rattle.format.specs.Content.{ExportShown, CaseShown, HandlerShown, Content, numbersOf, exportShown, caseShown, handlerShown, contentOf}
 use Rattle.format.specs.Writing.{writeOf}
 use Rattle.format.specs.Walk.{Event, entry, export, next, raise, entered, exported, covers, caught, firstCase, firstHandler, fromThere, exportOr, moved, walkOf, answers, after}
-use Rattle.laws.proofs.Loads.{accepted}
+use Rattle.laws.proofs.Loads.{Accepted, accepted}
 use Rattle.laws.proofs.OperandBack.{Bytes}
 use Rattle.loaded.proofs.Leaves.{loaded-records}
 use Rattle.reload.proofs.Shown.{shown-ind, entry-same, range-same, code-same, types-same}
-use Rattle.reload.proofs.Again.{records-same, load-again}
+use Rattle.reload.proofs.Again.{Says, records-same, load-again}
 use Rattle.laws.proofs.Walks.{walk-is}
 
 module _ (file file′ : List ℕ) where
@@ -101,6 +101,14 @@ module _ (file file′ : List ℕ) where
 
 -- ---- loaded, written, and loaded again
 
+-- a load that says what another said walks as that does
+pub walks-alike : {file file′ : List ℕ} {words now words′ : List ℤ} {m : Module} {used needed used′ needed′ : ℕ} (a : Accepted file words m used needed now)
+    (b : Says (contentOf file (a .records)) file′ words′ used′ needed′) → walkOf m file now ≡ walkOf (moduleOf (b .records)) file′ (put 0 (tableWords (b .records)) words′)
+walks-alike {file} {file′} {now = now} {words′ = words′} {m = m} a b =
+    let c = accepted file′ words′ (b .loads) in
+    let says = ap (contentOf file′) (records-same b c) ∙ b .same in
+    same-tables file file′ (a .records) (c .records) (sym says) m _ now _ (loaded-records a) (loaded-records c)
+
 -- a load of that file that uses and needs so much, and over which the walk goes as another does
 pub record WalksAs (answer : Event → State → WalkAnswer) (file : List ℕ) (words : List ℤ) (used needed : ℕ) : Type 0 where
   pub beside : Module
@@ -114,11 +122,8 @@ module _ (file : List ℕ) (words : List ℤ) {now : List ℤ} {m : Module} {use
     (ys : List ℕ) (small : length (take n left ++ ys) ≤ sizeLimit) (again : List ℤ) (room : needed ≤ length again) where
   pub same-walk : WalksAs (walkOf m file now) (take n left ++ ys) again n needed
   same-walk =
-      let first = accepted file words e in
       let second = load-again file words e bytes out f ys small again room in
-      let b = accepted (take n left ++ ys) again (second .loads) in
-      let says = ap (contentOf (take n left ++ ys)) (records-same second b) ∙ second .same in
-      let same = same-tables (take n left ++ ys) file (b .records) (first .records) says _ m _ now (loaded-records b) (loaded-records first) in
+      let same = sym (walks-alike (accepted file words e) second) in
       record {
         beside = moduleOf (second .records);
         now = put 0 (tableWords (second .records)) again;

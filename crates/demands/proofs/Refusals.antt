@@ -25,6 +25,7 @@ use Rattle.format.specs.Load.{accept, filled, loadOf}
 use Rattle.format.specs.WellFormed.{recordsOf}
 use Rattle.format.specs.Writing.{bytesOf, written, writeOf}
 use Rattle.format.specs.Walk.{Event, entry, export, next, raise, exportOr, moved, inTables, walkOf}
+use Rattle.walked.proofs.Rules.{moved-refused}
 use Rattle.demands.proofs.Calls.{Tables, walk}
 
 -- ---- where a definition stops
@@ -126,3 +127,13 @@ tables-first file (refused why) event s = refl
 pub event-first : (t : Tables) (event : Event) (s : State) → walkWhy (walk t event s) ≡ eventRefusal t event
 unfolding walkOf
 event-first t event s = tables-first (t .1) (recordsOf (t .0) (t .1) (t .2)) event s
+
+-- over well-formed tables it is 25 alone, for an export that is absent
+absent-in : (file : List ℕ) (x : Step ℕ Records) (event : Event) (s left : State) {why : Refusal} → refusalIn x ≡ none → inTables s x (λ r. moved file r event s) ≡ A.Refused why left
+    → (k : ℕ) × (event ≡ export k) × (why ≡ NoExport k)
+absent-in file (got r w) event s left good e = let g = moved-refused file r event s left e in (g .1, g .2, g .3)
+absent-in file (refused why) event s left good e = let z : _≡_ {A = ℕ} 0 1 = cc in absurd (omega arith)
+
+pub event-absent : (t : Tables) (event : Event) (s left : State) {why : Refusal} → checkRefusal t ≡ none → walk t event s ≡ A.Refused why left → (k : ℕ) × (event ≡ export k) × (why ≡ NoExport k)
+unfolding walkOf
+event-absent t = absent-in (t .1) (recordsOf (t .0) (t .1) (t .2))
