@@ -1,6 +1,5 @@
--- What a call of an offered function is: what was handed in, what came back, and that the function's own contract holds of them. And calls of the
--- walk's events one after the other.
--- `Learnt` is all that a caller may know of a call, and that the code keeps it is proved where the code is.
+-- A call of a function that is offered, as its caller sees it: what was handed in, what came back, and that the function's own contract, all that a
+-- caller may know of a call, holds of them. And calls of the walk's events one after the other. That the code keeps these contracts is in Open.antt.
 -- Assumes nothing.
 use denote.Ref.{now}
 use Prim.Native.Nat.{ℕ}
@@ -23,7 +22,7 @@ use Rattle.walk.proofs.export.Reads as export
 use Rattle.walk.proofs.next.Reads as next
 use Rattle.walk.proofs.raise.Reads as raise
 
--- a call of a function by its contract: the arguments show what was handed in, the answer and the memory at exit what came back
+-- the arguments show what was handed in, the answer and the memory at exit what came back
 pub record Call {L S T : Type 0} {A R E : L → Type 0} (Contract : (κs : L) → A κs → R κs → E κs → Type 0) (handed : (κs : L) → A κs → S) (back : (κs : L) → R κs → E κs → T)
     (given : S) (found : T) : Type 0 where
   pub lifetimes : L

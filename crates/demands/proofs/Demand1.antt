@@ -7,9 +7,9 @@ use mathlib.Core.List.{List}
 use mathlib.Core.Option.{none}
 use lib.IntN.{ℤ}
 use Rattle.laws.proofs.Types.{LoadAnswer, WriteAnswer, State, WalkAnswer, Refusal, NoExport}
-use Rattle.format.specs.declared.module.LoadAnswer.the-variants as L
-use Rattle.format.specs.declared.module.WriteAnswer.the-variants as W
-use Rattle.format.specs.declared.walk.WalkAnswer.the-variants as A
+use Rattle.format.specs.declared.module.LoadAnswer.the-variants as Load-is
+use Rattle.format.specs.declared.module.WriteAnswer.the-variants as Write-is
+use Rattle.format.specs.declared.walk.WalkAnswer.the-variants as Walk-is
 use Rattle.format.specs.Walk.{Event, export}
 use Rattle.tables.specs.declared.Checked.{Checked}
 use Rattle.laws.proofs.Loads.{refused-leaves}
@@ -23,26 +23,22 @@ use Rattle.demands.proofs.Refusals.{loadWhy, checkWhy, writeWhy, walkWh
 pub record Demand1 : Type 2 where
   -- "Any bytes, tables and buffers may be handed in."
   pub any-may-be-handed-in : AllOpen
-
-  -- "Each answer is a result or exactly one refusal of document 01, in its order": the first that the definition meets, or none
+  -- "Each answer is a result or exactly one refusal of document 01, in its order": that which the definition meets first, or none
   pub load-refuses : {file : List ℕ} {words left : List ℤ} {answer : LoadAnswer} → Load (file, words) (answer, left) → loadWhy answer ≡ loadRefusal file words
   pub check-refuses : {t : Tables} {answer : Checked} → Check t answer → checkWhy answer ≡ checkRefusal t
   pub write-refuses : {t : Tables} {out left : List ℕ} {answer : WriteAnswer} → Write (t, out) (answer, left) → writeWhy answer ≡ writeRefusal t out
   pub event-refuses : (t : Tables) (event : Event) (s : State) (answer : WalkAnswer) → Happens t event s answer → walkWhy answer ≡ eventRefusal t event
-
   -- and no two: what is handed in decides the answer and what is left
   pub load-once : {x : List ℕ × List ℤ} {y z : LoadAnswer × List ℤ} → Load x y → Load x z → y ≡ z
   pub check-once : {t : Tables} {y z : Checked} → Check t y → Check t z → y ≡ z
   pub write-once : {x : Tables × List ℕ} {y z : WriteAnswer × List ℕ} → Write x y → Write x z → y ≡ z
   pub event-once : (t : Tables) (event : Event) (s : State) (y z : WalkAnswer) → Happens t event s y → Happens t event s z → y ≡ z
-
   -- "A refused load leaves the table words untouched, a refused write the output", and a refused event the state
-  pub load-leaves : {file : List ℕ} {words left : List ℤ} {why : Refusal} → Load (file, words) (L.Refused why, left) → left ≡ words
-  pub write-leaves : {t : Tables} {out left : List ℕ} {why : Refusal} → Write (t, out) (W.Refused why, left) → left ≡ out
-  pub event-leaves : (t : Tables) (event : Event) (s left : State) (why : Refusal) → Happens t event s (A.Refused why left) → left ≡ s
-
+  pub load-leaves : {file : List ℕ} {words left : List ℤ} {why : Refusal} → Load (file, words) (Load-is.Refused why, left) → left ≡ words
+  pub write-leaves : {t : Tables} {out left : List ℕ} {why : Refusal} → Write (t, out) (Write-is.Refused why, left) → left ≡ out
+  pub event-leaves : (t : Tables) (event : Event) (s left : State) (why : Refusal) → Happens t event s (Walk-is.Refused why left) → left ≡ s
   -- over well-formed tables an event is refused by 25 alone, for an export that is absent
-  pub event-absent : (t : Tables) (event : Event) (s left : State) (why : Refusal) → checkRefusal t ≡ none → Happens t event s (A.Refused why left)
+  pub event-absent : (t : Tables) (event : Event) (s left : State) (why : Refusal) → checkRefusal t ≡ none → Happens t event s (Walk-is.Refused why left)
       → (k : ℕ) × (event ≡ export k) × (why ≡ NoExport k)
 
 pub demand-1 : Demand1
@@ -57,7 +53,7 @@ demand-1 = record {
   write-once = λ c d. sym (write-is c) ∙ write-is d;
   event-once = λ t event s y z c d. sym (happens-is t event s y c) ∙ happens-is t event s z d;
   load-leaves = λ {file} {words} c. refused-leaves words file (load-is c);
-  write-leaves = λ {t} {out} {left} {why} c. write-leaves (t .0) (t .1) (t .2) out (W.Refused why) left (write-is c);
-  event-leaves = λ t event s left why c. refusal-keeps (t .0) (t .1) (t .2) event s left (happens-is t event s (A.Refused why left) c);
-  event-absent = λ t event s left why good c. event-absent t event s left good (happens-is t event s (A.Refused why left) c);
+  write-leaves = λ {t} {out} {left} {why} c. write-leaves (t .0) (t .1) (t .2) out (Write-is.Refused why) left (write-is c);
+  event-leaves = λ t event s left why c. refusal-keeps (t .0) (t .1) (t .2) event s left (happens-is t event s (Walk-is.Refused why left) c);
+  event-absent = λ t event s left why good c. event-absent t event s left good (happens-is t event s (Walk-is.Refused why left) c);
 }

@@ -1,5 +1,5 @@
--- The functions that are offered, whatever is handed in: their contracts ask nothing, and the code keeps them in every model of the logic, which is
--- that of total correctness: each call is safe, ends, and leaves what the contract says.
+-- Whatever is handed in: the contract of a function that is offered asks nothing of it, and the code keeps the contract in every model of the logic.
+-- The logic is one of total correctness: a call is safe, ends, and leaves what the contract says.
 -- Assumes nothing.
 use Rattle.load.proofs.load.Reads as load
 use Rattle.load.proofs.load.Statement.{statement as load-kept}

@@ -11,11 +11,11 @@ use lib.Dec.{leb, ltb, leb·suc-suc}
 use lib.IntN.{ℤ}
 use lib.ListN.{length, getElem?}
 use Rattle.laws.proofs.Types.{Cursor, ExportEntry, Module, LoadAnswer, WriteAnswer, State, WalkAnswer, Refusal, FewWords, NoExport}
-use Rattle.format.specs.declared.module.LoadAnswer.the-variants as L
-use Rattle.format.specs.declared.module.WriteAnswer.the-variants as W
-use Rattle.format.specs.declared.walk.WalkAnswer.the-variants as A
+use Rattle.format.specs.declared.module.LoadAnswer.the-variants as Load-is
+use Rattle.format.specs.declared.module.WriteAnswer.the-variants as Write-is
+use Rattle.format.specs.declared.walk.WalkAnswer.the-variants as Walk-is
 use Rattle.tables.specs.declared.Checked.{Checked}
-use Rattle.tables.specs.declared.Checked.the-variants as C
+use Rattle.tables.specs.declared.Checked.the-variants as Checked-is
 use Rattle.tables.specs.Laid.{CheckSays}
 use Rattle.format.specs.Reading.{Step, got, refused, andThen, _>>=_, check, sound, front}
 use Rattle.format.specs.Records.{Records}
@@ -59,25 +59,25 @@ eventRefusal (m, file, words) event = refusalIn (andThen (recordsOf m file words
 -- ---- the refusal that an answer is, if it is one
 
 abbrev pub loadWhy : LoadAnswer → Option Refusal
-loadWhy (L.Loaded m used needed) = none
-loadWhy (L.Refused why) = some why
+loadWhy (Load-is.Loaded m used needed) = none
+loadWhy (Load-is.Refused why) = some why
 
 abbrev pub checkWhy : Checked → Option Refusal
-checkWhy (C.Good places) = none
-checkWhy (C.Refused why) = some why
+checkWhy (Checked-is.Good places) = none
+checkWhy (Checked-is.Refused why) = some why
 
 abbrev pub writeWhy : WriteAnswer → Option Refusal
-writeWhy (W.Written n) = none
-writeWhy (W.Refused why) = some why
+writeWhy (Write-is.Written n) = none
+writeWhy (Write-is.Refused why) = some why
 
 abbrev pub walkWhy : WalkAnswer → Option Refusal
-walkWhy (A.Walked s) = none
-walkWhy (A.Refused why s) = some why
+walkWhy (Walk-is.Walked s) = none
+walkWhy (Walk-is.Refused why s) = some why
 
 -- ---- they are the same
 
 by-room : (t : Bool) (m : Module) (used n : ℕ) (now words : List ℤ) (end : Cursor)
-    → loadWhy (cond {A = LoadAnswer × List ℤ} t (L.Loaded m used n, now) (L.Refused (FewWords n), words) .0) ≡ refusalIn (check t (FewWords n) end)
+    → loadWhy (cond {A = LoadAnswer × List ℤ} t (Load-is.Loaded m used n, now) (Load-is.Refused (FewWords n), words) .0) ≡ refusalIn (check t (FewWords n) end)
 by-room true m used n now words end = refl
 by-room false m used n now words end = refl
 
@@ -91,8 +91,8 @@ unfolding loadOf
 load-first file words = fill-first words (accept file front)
 
 pub check-first : (t : Tables) (answer : Checked) → CheckSays (t .0) (t .1) (t .2) answer → checkWhy answer ≡ checkRefusal t
-check-first t (C.Good places) h = sym (ap refusalIn (h .reads))
-check-first t (C.Refused why) h = sym (ap refusalIn h)
+check-first t (Checked-is.Good places) h = sym (ap refusalIn (h .reads))
+check-first t (Checked-is.Refused why) h = sym (ap refusalIn h)
 
 write-step : (out : List ℕ) (s : Step ℕ (List ℕ)) → writeWhy (written out s .0) ≡ refusalIn s
 unfolding written
@@ -129,11 +129,11 @@ unfolding walkOf
 event-first t event s = tables-first (t .1) (recordsOf (t .0) (t .1) (t .2)) event s
 
 -- over well-formed tables it is 25 alone, for an export that is absent
-absent-in : (file : List ℕ) (x : Step ℕ Records) (event : Event) (s left : State) {why : Refusal} → refusalIn x ≡ none → inTables s x (λ r. moved file r event s) ≡ A.Refused why left
+absent-in : (file : List ℕ) (x : Step ℕ Records) (event : Event) (s left : State) {why : Refusal} → refusalIn x ≡ none → inTables s x (λ r. moved file r event s) ≡ Walk-is.Refused why left
     → (k : ℕ) × (event ≡ export k) × (why ≡ NoExport k)
 absent-in file (got r w) event s left good e = let g = moved-refused file r event s left e in (g .1, g .2, g .3)
 absent-in file (refused why) event s left good e = let z : _≡_ {A = ℕ} 0 1 = cc in absurd (omega arith)
 
-pub event-absent : (t : Tables) (event : Event) (s left : State) {why : Refusal} → checkRefusal t ≡ none → walk t event s ≡ A.Refused why left → (k : ℕ) × (event ≡ export k) × (why ≡ NoExport k)
+pub event-absent : (t : Tables) (event : Event) (s left : State) {why : Refusal} → checkRefusal t ≡ none → walk t event s ≡ Walk-is.Refused why left → (k : ℕ) × (event ≡ export k) × (why ≡ NoExport k)
 unfolding walkOf
 event-absent t = absent-in (t .1) (recordsOf (t .0) (t .1) (t .2))

@@ -17,13 +17,13 @@ use survey::survey_back;
 use survey::survey_front;
 use survey::survey_middle;
 ghost use mathlib.Core.Path.{_≡_};
-ghost use Prim.Native.Nat.{_≤_};
+ghost use Prim.Native.Nat.{ℕ, _≤_, _<_};
 ghost use lib.ListN.{length};
 ghost use Rattle.format.specs.Load.{loadOf};
+ghost use Rattle.format.specs.Operands.{byte};
 ghost use Rattle.format.specs.Reading as Spec;
 ghost use Rattle.format.specs.Records.{sizeLimit};
 ghost use Rattle.format.specs.Sections.{parse};
-ghost use Rattle.laws.proofs.OperandBack.{Bytes};
 ghost use Rattle.load.specs.Whole.{Surveyed, besides};
 
 // What comes beside the words.
@@ -74,10 +74,10 @@ fn load_surveyed(
     }
 }
 
-// The second clause tells a caller what every lent file is and a list of numbers does not say: bytes.
+// The second clause hands on to a caller what is known of every lent file, and what a list of numbers does not say: that it is bytes.
 pub fn load(file: &[u8], words: &mut [i32]) -> LoadAnswer
     ensures { λ r. ⌜ loadOf (now (file .entry)) (now (words .entry)) ≡ (r, now (words .exit)) ⌝ }
-    ensures bytes { λ r. ⌜ Bytes (now (file .entry)) ⌝ }
+    ensures bytes { λ r. ⌜ ((i : ℕ) → byte (now (file .entry)) i < 256) ⌝ }
 {
     if FILE_LIMIT < file.len() {
         return LoadAnswer::Refused(Refusal::TooLarge);

@@ -7,7 +7,7 @@ use Rattle.laws.proofs.OperandBack.{Bytes}
 use Rattle.load.proofs.load.Statement.{statement}
 use Rattle.load.proofs.load.Tie as tie
 
--- what is known of the file on entry
+-- known of the file on entry
 bytes : (c : tie.After-shared-slice-known) → Bytes (now (c .before .args .file))
 bytes c i = c .shared-slice-known .given i .fits
 
@@ -48,9 +48,11 @@ returns-3 c =
 
 returns-4 : tie.Need-returns-4
 returns-4 c =
-    let w = c .before in
-    (load-parse _ _ (w .before .before .before .before .before .before .before .before .before .before .before .if1 .left)
-    (subst (BackSays (now (w .before .before .before .before .before .before .before .before .before .before .before .before .before .args .file)) (w .before .before .before .before .before .before .before .before .front .given .0 .0) (w .before .before .before .before .middle .given .0 .0)) (w .why3 .given .1) (w .before .before .survey-back .ensures)), bytes (w .before .before .before .before .before .before .before .before .before .before .before .before))
+    let w = c .before in (
+      load-parse _ _ (w .before .before .before .before .before .before .before .before .before .before .before .if1 .left)
+          (subst (BackSays (now (w .before .before .before .before .before .before .before .before .before .before .before .before .before .args .file)) (w .before .before .before .before .before .before .before .before .front .given .0 .0) (w .before .before .before .before .middle .given .0 .0)) (w .why3 .given .1) (w .before .before .survey-back .ensures)),
+      bytes (w .before .before .before .before .before .before .before .before .before .before .before .before),
+    )
 
 returns-5 : tie.Need-returns-5
 returns-5 c = (search needs, bytes (c .before .before .before .before .before .before .before .before .before .before .before .before .before .before .before .before))
