@@ -1,7 +1,8 @@
 -- Demand 2: "Loading equals the Rust on every file up to 16,777,216 bytes, writing equals it in the domain that 01 states, and both meet definitions
 -- written from the public Dis specification."
--- The second half is proved here: whatever is handed in, what load and write answer and leave is the definitions'. The first half is no theorem, since
--- the Rust is no Rattle: compare/ runs both beside each other, and docs/DIFFERENCES.md says on what and what differs.
+-- The second half is proved here: whatever is handed in, what load and write answer and leave is the definitions', of which document 01's examples hold
+-- (format/specs/Known.antt). The first half is no theorem, since the Rust is no Rattle: compare/ runs both beside each other, and docs/DIFFERENCES.md
+-- says on what and what differs.
 -- Assumes nothing.
 use Prim.Native.Nat.{ℕ}
 use mathlib.Core.Path.{_≡_}

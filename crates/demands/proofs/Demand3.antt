@@ -1,6 +1,7 @@
 -- Demand 3: "For any accepted file, no sequence of entries, steps and raised exceptions ever reaches 'broken'; written and loaded again, the module is
 -- accepted and every sequence gives the same walk."
--- It is said of calls of the code: of load, of the events over the words that it left, of write, and of load again.
+-- It is said of calls of the code: of load, of the events over the words that it left, of write, and of load again. That the file is bytes, which the
+-- laws of writing ask, load's own contract tells.
 -- Assumes nothing.
 use Prim.Native.Nat.{ℕ, _≤_}
 use mathlib.Core.Path.{_≡_, sym, ap, _∙_}
