@@ -1,5 +1,5 @@
--- A call of a function that is offered, as its caller sees it: what was handed in, what came back, and that the function's own contract, all that a
--- caller may know of a call, holds of them. And calls of the walk's events one after the other. That the code keeps these contracts is in Open.antt.
+-- A call of a function that is offered, as its caller sees it: what was handed in, what came back, and that the function's own contract, by which a caller
+-- knows a call, holds of them. And calls of the walk's events one after the other. That the code keeps these contracts is in Open.antt.
 -- Assumes nothing.
 use denote.Ref.{now}
 use Prim.Native.Nat.{ℕ}
