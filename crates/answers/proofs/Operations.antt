@@ -38,9 +38,9 @@ use Rattle.reader.proofs.read_operand.Reads as read-operand
 use Rattle.reader.proofs.read_word.Reads as read-word
 use Rattle.reader.proofs.read_name.Reads as read-name
 use Rattle.reader.proofs.read_span.Reads as read-span
-use Rattle.reader.proofs.spans.name.Reads as name
-use Rattle.reader.proofs.spans.count_pointers.Reads as count-pointers
-use Rattle.reader.proofs.write.operand_len.Reads as operand-len
+use Rattle.spans.proofs.name.Reads as name
+use Rattle.spans.proofs.count_pointers.Reads as count-pointers
+use Rattle.line_pieces.proofs.operand.operand_len.Reads as operand-len
 use Rattle.values.proofs.opcode.is_opcode.Reads as is-opcode
 use Rattle.values.proofs.instruction.address_mode.Reads as address-mode
 use Rattle.values.proofs.instruction.mode_number.Reads as mode-number

@@ -7,7 +7,7 @@ use format::module::ExportEntry;
 use format::module::Module;
 use format::refusal::Refusal;
 use format::refusal::numbers_of;
-use reader::spans::name;
+use spans::name;
 use table_names::ExportFrom;
 use table_names::export_from;
 ghost use Prim.Native.Nat.{_<_, _^_};

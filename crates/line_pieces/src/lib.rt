@@ -1,4 +1,6 @@
-// Bytes, a word and a name, written at a place of the output. Each answers the place past it.
+// Bytes, a word and a name, written at a place of the output; an operand in the module beside. Each answers the place past it.
+pub mod operand;
+
 use bits::bits_of;
 use bits::low;
 ghost use mathlib.Core.Path.{_≡_};

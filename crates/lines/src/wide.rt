@@ -6,7 +6,7 @@ use format::module::DataItem;
 use format::module::ExceptionCase;
 use format::module::ExportEntry;
 use format::types::TypeDescriptor;
-use reader::write::operand_len;
+use line_pieces::operand::operand_len;
 use values::instruction::middle_number;
 use values::instruction::mode_number;
 ghost use mathlib.Core.Path.{_≡_};

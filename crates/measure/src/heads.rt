@@ -5,7 +5,7 @@ use format::module::Handler;
 use format::module::Header;
 use format::module::XMAGIC;
 use format::refusal::Refusal;
-use reader::write::operand_len;
+use line_pieces::operand::operand_len;
 ghost use mathlib.Core.Path.{_≡_};
 ghost use mathlib.Core.List.{[], _∷_, map};
 ghost use Prim.Native.Nat.{_+_, _^_, _≤_, _<_};

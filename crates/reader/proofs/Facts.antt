@@ -1,27 +1,21 @@
 -- What the proofs of the readers share, and what their callers learn of a number that was read.
 -- Assumes nothing.
 use Prim.Native.Nat.{ℕ, _%_, _^_, _≤_, _<_}
-use mathlib.Core.Path.{_≡_, sym, _∙_}
-use mathlib.Core.Bool.{false}
-use mathlib.Core.List.{List, []}
+use mathlib.Core.Path.{_≡_, sym}
 use borrow.Author.Tests.{lt-ltb, le-ltb}
 use lib.Bits.{bitAnd, and-mask}
 use lib.IntN.{ℤ, pos, _-ℤ_}
 use lib.Signed.{mag}
-use denote.Ref.{RefT, ptr, now}
 use mir.Syntax.{w32}
 use mir.Val.{toZ, ofZ}
 use Rattle.bits.specs.Bits.{signed}
 use Rattle.format.specs.declared.types.Cursor.{Cursor}
-use Rattle.format.specs.declared.types.Span.{Span}
 use Rattle.format.specs.Reading.{Read, found, short}
-use Rattle.format.specs.Operands.{inside}
 use Rattle.bits.proofs.Signs.{kept}
-use Rattle.laws.proofs.Names.{shown-outside}
 use Rattle.laws.proofs.Told.{told}
 use Rattle.reader.specs.declared.NumberRead.{NumberRead}
 use Rattle.reader.specs.declared.NumberRead.the-variants.{Got, Short}
-use Rattle.reader.specs.View.{numberRead, PartOf}
+use Rattle.reader.specs.View.{numberRead}
 
 -- an answer whose value and next place are those of the reading
 pub found-as : {A : Type 0} {o : Read A} {v w : A} {m n : Cursor} → o ≡ found w n → v ≡ w → m ≡ n → found v m ≡ o
@@ -44,7 +38,3 @@ number-told {v} e q h = rw (kept v h) (told numberRead e q)
 
 pub number-short : {r : NumberRead} {o : Read ℤ} → numberRead r ≡ o → r ≡ Short → o ≡ short
 number-short e q = told numberRead e q
-
--- the empty part at the file's front is what a span says that leaves the file
-pub part-outside : {file r : RefT (List ℕ)} {s : Span} → inside (now file) s ≡ false → ptr r ≡ ptr file → now r ≡ [] → PartOf file s r
-part-outside {file} {s = s} out start bytes = record { start = rw out start; bytes = bytes ∙ sym (shown-outside (now file) s out) }

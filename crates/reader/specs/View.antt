@@ -1,15 +1,10 @@
--- The readers' answers, as readings; where what is passed over ends; and the part of a file that a span says.
-use Prim.Native.Nat.{ℕ, _+_}
-use mathlib.Core.Path.{_≡_}
-use mathlib.Core.Bool.{cond}
-use mathlib.Core.List.{List}
+-- The readers' answers, as readings; and where what is passed over ends.
+use Prim.Native.Nat.{ℕ}
 use lib.IntN.{ℤ}
-use lib.Signed.{mag}
-use denote.Ref.{RefT, ptr, now}
 use Rattle.format.specs.declared.types.Cursor.{Cursor}
 use Rattle.format.specs.declared.types.Span.{Span}
 use Rattle.format.specs.Reading.{Read, found, short, End, ends, stops}
-use Rattle.format.specs.Operands.{spanOf, inside, shown}
+use Rattle.format.specs.Operands.{spanOf}
 use Rattle.reader.specs.declared.ByteRead.{ByteRead}
 use Rattle.reader.specs.declared.ByteRead.the-variants as B
 use Rattle.reader.specs.declared.NumberRead.{NumberRead}
@@ -34,13 +29,3 @@ spanRead S.Short = short
 abbrev pub endRead : EndRead → End Cursor
 endRead (E.Done next) = ends next
 endRead (E.Refused why) = stops why
-
--- ---- the part of a lent file that a span says: where it starts, and its bytes
-
--- a place is a block of memory and an offset in it; a span that leaves the file says the file's own place, and no bytes
-abbrev pub startIn : RefT (List ℕ) → Span → ℕ × ℕ
-startIn file s = cond (inside (now file) s) (ptr file .0, mag (s .start) + ptr file .1) (ptr file)
-
-pub record PartOf (file : RefT (List ℕ)) (s : Span) (r : RefT (List ℕ)) : Type 0 where
-  pub start : ptr r ≡ startIn file s
-  pub bytes : now r ≡ shown (now file) s

@@ -1,7 +1,4 @@
 // reader.rs: a byte, an operand, a word, a name or a span at a cursor of the lent file.
-pub mod spans;
-pub mod write;
-
 use bits::be16;
 use bits::be32;
 use bits::signed;

@@ -1,6 +1,6 @@
 // A raised name beside a case's.
 use format::module::ExceptionCase;
-use reader::spans::name;
+use spans::name;
 ghost use mathlib.Core.Path.{_≡_};
 ghost use Rattle.format.specs.Operands.{shown, sameBytes};
 ghost use Rattle.format.specs.Walk as Spec;

@@ -1,7 +1,7 @@
 // The bytes of an instruction's line, written at a place of the output. Each answers the place past them.
 use crate::byte_there;
+use line_pieces::operand::put_operand;
 use line_pieces::put_byte;
-use reader::write::put_operand;
 use values::instruction::modes_byte;
 ghost use mathlib.Core.Path.{_≡_};
 ghost use Rattle.line_bytes.specs.Laid.{Ready, Laid};

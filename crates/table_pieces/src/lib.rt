@@ -3,7 +3,7 @@ use bits::Natural;
 use bits::as_natural;
 use format::module::WORD_LIMIT;
 use format::types::Span;
-use reader::spans::name;
+use spans::name;
 ghost use mathlib.Core.Path.{_≡_};
 ghost use Prim.Native.Nat.{_+_, min};
 ghost use lib.Dec.{leb};

@@ -4,7 +4,7 @@ use bits::as_natural;
 use format::module::TYPE_WIDTH;
 use format::types::Span;
 use format::types::TypeDescriptor;
-use reader::spans::count_pointers;
+use spans::count_pointers;
 use table_pieces::has_room;
 use table_pieces::is_span;
 ghost use mathlib.Core.Path.{_≡_};

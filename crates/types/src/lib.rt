@@ -7,7 +7,7 @@ use pieces::read_sized;
 use reader::EndRead;
 use reader::NumberRead;
 use reader::read_operand;
-use reader::spans::count_pointers;
+use spans::count_pointers;
 ghost use mathlib.Core.Path.{_≡_};
 ghost use Prim.Native.Nat.{_≤_};
 ghost use lib.ListN.{length};

@@ -2,7 +2,7 @@
 use format::module::Handler;
 use format::module::Header;
 use format::module::XMAGIC;
-use reader::write::put_operand;
+use line_pieces::operand::put_operand;
 ghost use mathlib.Core.List.{[], _∷_, map};
 ghost use Rattle.format.specs.Content.{numbersOf};
 ghost use Rattle.format.specs.Writing.{operand, headerLine};

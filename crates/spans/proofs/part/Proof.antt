@@ -7,9 +7,9 @@ use denote.Ref.{now}
 use borrow.Author.Tests.{le-leb, lt-leb}
 use borrow.Author.Needs.{needs}
 use Rattle.format.specs.Operands.{shown}
-use Rattle.reader.proofs.Facts.{part-outside}
-use Rattle.reader.proofs.spans.part.Statement.{statement}
-use Rattle.reader.proofs.spans.part.Tie as tie
+use Rattle.spans.proofs.Outside.{part-outside}
+use Rattle.spans.proofs.part.Statement.{statement}
+use Rattle.spans.proofs.part.Tie as tie
 
 returns : tie.Need-returns
 returns c =

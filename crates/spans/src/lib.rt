@@ -7,7 +7,7 @@ ghost use Prim.Native.Nat.{_+_, _≤_, _<_, _^_};
 ghost use lib.ListN.{length};
 ghost use Rattle.format.specs.Operands.{spanOf, shown};
 ghost use Rattle.format.specs.Records.{onesOf};
-ghost use Rattle.reader.specs.View.{PartOf};
+ghost use Rattle.spans.specs.Part.{PartOf};
 
 // Nothing, where it leaves the file.
 fn part(file: &[u8], from: usize, count: usize) -> &[u8]

@@ -10,8 +10,8 @@ use Rattle.bits.specs.Bits.{bitsOf}
 use Rattle.laws.proofs.OperandCases.{encode-one, encode-two, encode-four, bits-lt}
 use Rattle.laws.proofs.Put.{put-one}
 use borrow.Author.Needs.{needs}
-use Rattle.reader.proofs.write.put_operand.Statement.{statement}
-use Rattle.reader.proofs.write.put_operand.Tie as tie
+use Rattle.line_pieces.proofs.operand.put_operand.Statement.{statement}
+use Rattle.line_pieces.proofs.operand.put_operand.Tie as tie
 
 is-mag : (c : tie.After-magnitude) → c .magnitude .result ≡ mag (c .before .before .args .v)
 is-mag c = c .magnitude .ensures ∙ ap mag (toZ-ofZ (c .before .before .fits .v))

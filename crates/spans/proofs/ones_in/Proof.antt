@@ -6,8 +6,8 @@ use native.Mathlib.Nat.{zero-add, add-sub-cancel-left, min-le-left, le-trans}
 use lib.ListN.{length, drop, length-take}
 use Rattle.format.specs.Records.{onesOf}
 use Rattle.laws.proofs.Names.{ones-part, ones-rest}
-use Rattle.reader.proofs.spans.ones_in.Statement.{statement}
-use Rattle.reader.proofs.spans.ones_in.Tie as tie
+use Rattle.spans.proofs.ones_in.Statement.{statement}
+use Rattle.spans.proofs.ones_in.Tie as tie
 
 abbrev Inv-loop : tie.InvT-loop
 Inv-loop map ones₀ from₀ ones from = (from ≤ length map) × (ones ≤ from * 9) × (ones + onesOf (drop from map) ≡ onesOf map)

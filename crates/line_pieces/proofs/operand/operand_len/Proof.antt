@@ -4,8 +4,8 @@ use lib.Signed.{mag}
 use mir.Facts.{toZ-ofZ}
 use Rattle.laws.proofs.OperandCases.{len-one, len-two, len-four, len-none}
 use borrow.Author.Needs.{needs}
-use Rattle.reader.proofs.write.operand_len.Statement.{statement}
-use Rattle.reader.proofs.write.operand_len.Tie as tie
+use Rattle.line_pieces.proofs.operand.operand_len.Statement.{statement}
+use Rattle.line_pieces.proofs.operand.operand_len.Tie as tie
 
 is-mag : (c : tie.After-magnitude) → c .magnitude .result ≡ mag (c .before .args .v)
 is-mag c = c .magnitude .ensures ∙ ap mag (toZ-ofZ (c .before .fits .v))

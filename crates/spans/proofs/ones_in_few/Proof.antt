@@ -7,8 +7,8 @@ use lib.Count.{ones, ones-le}
 use lib.ListN.{length, drop}
 use Rattle.format.specs.Records.{onesOf}
 use Rattle.laws.proofs.Names.{ones-turn, ones-done}
-use Rattle.reader.proofs.spans.ones_in_few.Statement.{statement}
-use Rattle.reader.proofs.spans.ones_in_few.Tie as tie
+use Rattle.spans.proofs.ones_in_few.Statement.{statement}
+use Rattle.spans.proofs.ones_in_few.Tie as tie
 
 abbrev Inv-loop : tie.InvT-loop
 Inv-loop few ones₀ i₀ ones i = (i ≤ length few) × (ones ≤ i * 8) × (ones + onesOf (drop i few) ≡ onesOf few)

@@ -2,10 +2,10 @@ use mathlib.Core.Path.{_≡_, refl}
 use lib.IntN.{pos}
 use Rattle.bits.proofs.Signs.{natural-is, natural-not, passed}
 use Rattle.laws.proofs.Names.{before-file, no-length, span-is}
-use Rattle.reader.proofs.Facts.{part-outside}
+use Rattle.spans.proofs.Outside.{part-outside}
 use borrow.Author.Needs.{needs}
-use Rattle.reader.proofs.spans.name.Statement.{statement}
-use Rattle.reader.proofs.spans.name.Tie as tie
+use Rattle.spans.proofs.name.Statement.{statement}
+use Rattle.spans.proofs.name.Tie as tie
 
 returns : tie.Need-returns
 returns c =

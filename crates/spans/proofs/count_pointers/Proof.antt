@@ -4,8 +4,8 @@ use lib.ListN.{length}
 use borrow.Author.Needs.{needs}
 use Rattle.format.specs.Records.{onesOf}
 use Rattle.laws.proofs.Names.{length-shown}
-use Rattle.reader.proofs.spans.count_pointers.Statement.{statement}
-use Rattle.reader.proofs.spans.count_pointers.Tie as tie
+use Rattle.spans.proofs.count_pointers.Statement.{statement}
+use Rattle.spans.proofs.count_pointers.Tie as tie
 
 ones-in-requires : tie.Need-ones-in-requires
 ones-in-requires c κs =

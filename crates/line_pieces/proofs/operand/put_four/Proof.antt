@@ -2,8 +2,8 @@ use native.Mathlib.Omega.{arith}
 use lib.ListN.{length-set}
 use Rattle.laws.proofs.Put.{put-four}
 use borrow.Author.Needs.{needs}
-use Rattle.reader.proofs.write.put_four.Statement.{statement}
-use Rattle.reader.proofs.write.put_four.Tie as tie
+use Rattle.line_pieces.proofs.operand.put_four.Statement.{statement}
+use Rattle.line_pieces.proofs.operand.put_four.Tie as tie
 
 slice-write-out-2 : tie.Need-slice-write-out-2
 slice-write-out-2 c = simp length-set (omega arith)
