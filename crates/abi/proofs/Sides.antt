@@ -19,7 +19,8 @@ use Rattle.format.specs.Writing.{writeOf}
 use Rattle.format.specs.Walk.{Event, walkOf}
 use Rattle.numbers.specs.Numbers.{moduleIn, stateIn}
 use Rattle.laws.proofs.Truth.{and-both}
-use Rattle.abi.specs.Boundary.{done, tooShort, enough, enoughToWalk, loadAnswer, moduleAfter, disLoad, writeAnswer, disWrite, walkAnswer, stateAfter, disWalk}
+use Rattle.abi_answers.specs.Answers.{enough, enoughToWalk, loadAnswer, moduleAfter, writeAnswer, walkAnswer, stateAfter}
+use Rattle.abi.specs.Boundary.{done, tooShort, disLoad, disWrite, disWalk}
 
 module _ (numbers answer : ℕ) (e : enough numbers answer ≡ true) where
   pub module-fits : 16 ≤ numbers

@@ -3,7 +3,7 @@ use mathlib.Core.Bool.{true}
 use denote.Ref.{now}
 use borrow.Author.Tests.{not-true, not-false}
 use lib.ListN.{length}
-use Rattle.abi.specs.Boundary.{enoughToWalk}
+use Rattle.abi_answers.specs.Answers.{enoughToWalk}
 use Rattle.abi.proofs.Sides.{module-fits, answer-fits, state-fits, others-fit, walk-short, walk-done}
 use borrow.Author.Needs.{needs}
 use Rattle.abi.proofs.dis_export.Statement.{statement}

@@ -1,7 +1,7 @@
 use borrow.Author.Tests.{le-leb, lt-leb}
-use Rattle.abi.specs.Boundary.{enough}
-use Rattle.abi.proofs.enough.Statement.{statement}
-use Rattle.abi.proofs.enough.Tie as tie
+use Rattle.abi_answers.specs.Answers.{enough}
+use Rattle.abi_answers.proofs.enough.Statement.{statement}
+use Rattle.abi_answers.proofs.enough.Tie as tie
 
 returns : tie.Need-returns
 unfolding enough

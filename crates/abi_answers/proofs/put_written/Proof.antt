@@ -1,6 +1,6 @@
 use borrow.Author.Needs.{needs}
-use Rattle.abi.proofs.put_written.Statement.{statement}
-use Rattle.abi.proofs.put_written.Tie as tie
+use Rattle.abi_answers.proofs.put_written.Statement.{statement}
+use Rattle.abi_answers.proofs.put_written.Tie as tie
 
 returns : tie.Need-returns
 returns c = rw (c .before .before .before .before .written .given .1) (c .before .put-refusal .ensures)

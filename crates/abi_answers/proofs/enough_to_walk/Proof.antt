@@ -1,8 +1,8 @@
 use borrow.Author.Tests.{le-leb, lt-leb}
-use Rattle.abi.specs.Boundary.{enoughToWalk}
+use Rattle.abi_answers.specs.Answers.{enoughToWalk}
 use borrow.Author.Needs.{needs}
-use Rattle.abi.proofs.enough_to_walk.Statement.{statement}
-use Rattle.abi.proofs.enough_to_walk.Tie as tie
+use Rattle.abi_answers.proofs.enough_to_walk.Statement.{statement}
+use Rattle.abi_answers.proofs.enough_to_walk.Tie as tie
 
 returns : tie.Need-returns
 unfolding enoughToWalk
