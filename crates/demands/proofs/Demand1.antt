@@ -15,7 +15,7 @@ use Rattle.tables.specs.declared.Checked.{Checked}
 use Rattle.laws.proofs.Loads.{refused-leaves}
 use Rattle.laws.proofs.Writes.{write-leaves}
 use Rattle.walked.proofs.Rules.{refusal-keeps}
-use Rattle.answers.proofs.Checked.{check-same}
+use Rattle.tables.proofs.Same.{check-same}
 use Rattle.demands.proofs.Calls.{Tables, Load, Check, Write, Happens, load-is, check-is, write-is, happens-is}
 use Rattle.demands.proofs.Open.{AllOpen, all-open}
 use Rattle.demands.proofs.Refusals.{loadWhy, checkWhy, writeWhy, walkWhy, loadRefusal, checkRefusal, writeRefusal, eventRefusal, load-first, check-first, write-first, event-first, event-absent}
