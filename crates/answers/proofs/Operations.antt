@@ -9,7 +9,7 @@ use Rattle.format.specs.declared.instruction.MaybeAddressMode.the-variants as M
 use Rattle.format.specs.declared.instruction.MaybeMiddleMode.the-variants as MM
 use Rattle.format.specs.declared.module.MaybeDataKind.the-variants as MK
 use Rattle.format.specs.Words.{instructionWidth}
-use Rattle.format.specs.Records.{maybeMode, maybeMiddle, maybeKind}
+use Rattle.values.specs.View.{maybeMode, maybeMiddle, maybeKind}
 use Rattle.reader.specs.View.{byteRead, numberRead, spanRead}
 use Rattle.reader.specs.declared.ByteRead.the-variants as B
 use Rattle.reader.specs.declared.NumberRead.the-variants as N

@@ -9,9 +9,10 @@ use Rattle.laws.proofs.Types.{Cursor, Span, MaybeAddressMode, MaybeMiddleMode, 
 use Rattle.format.specs.declared.instruction.MaybeAddressMode.the-variants as MA
 use Rattle.format.specs.declared.instruction.MaybeMiddleMode.the-variants as MM
 use Rattle.format.specs.declared.module.MaybeDataKind.the-variants as MK
-use Rattle.format.specs.Reading.{Read, found, short, Step, got, refused, End, ends, stops}
+use Rattle.format.specs.Reading.{Read, found, short, Step, got, refused}
+use Rattle.laws.specs.Loops.{End, ends, stops}
 use Rattle.format.specs.Words.{instructionWidth}
-use Rattle.format.specs.Records.{maybeMode, maybeMiddle, maybeKind}
+use Rattle.values.specs.View.{maybeMode, maybeMiddle, maybeKind}
 use Rattle.reader.specs.View.{byteRead, numberRead, spanRead}
 use Rattle.reader.specs.declared.ByteRead.{ByteRead}
 use Rattle.reader.specs.declared.ByteRead.the-variants as B

@@ -15,7 +15,8 @@ use Rattle.format.specs.declared.module.Handler.{Handler}
 use Rattle.format.specs.declared.module.ExceptionCase.{ExceptionCase}
 use Rattle.format.specs.declared.refusal.Refusal.{Refusal}
 use Rattle.format.specs.declared.refusal.Refusal.the-variants.{CasePc}
-use Rattle.format.specs.Reading.{Step, got, refused, Reads, andThen, give, sound, before, Whole}
+use Rattle.format.specs.Reading.{Step, got, refused, Reads, andThen, give, sound, before}
+use Rattle.laws.specs.Loops.{Whole}
 use Rattle.format.specs.Sections.{nowhere, operandIn, caseAt, lastAt, casesAt, headAt, handlerAt}
 use Rattle.format.specs.Checks.{below, caseFault, ownFault, handlerFault}
 use Rattle.bits.proofs.Signs.{kept}

@@ -1,12 +1,11 @@
 // What is wrong with one record.
-use bits::Natural;
-use bits::as_natural;
 use format::module::ExportEntry;
 use format::module::Flag;
 use format::module::Handler;
 use format::module::Header;
 use format::refusal::Refusal;
 use values::module::contains;
+use values::ranges::below;
 ghost use mathlib.Core.Path.{_≡_};
 ghost use mathlib.Core.Bool.{_&&_, _||_};
 ghost use Prim.Native.Nat.{suc, _<_, _^_};
@@ -20,16 +19,6 @@ ghost use Rattle.checks.specs.View.{faultOf};
 pub enum Fault {
     Found(Refusal),
     Nothing,
-}
-
-// 0..n-1
-pub fn below(n: usize, v: i32) -> bool
-    ensures { λ r. ⌜ r ≡ Spec.below n v ⌝ }
-{
-    let Natural::Is(k) = as_natural(v) else {
-        return false;
-    };
-    k < n
 }
 
 // Any negative number, or 0..n-1.

@@ -23,7 +23,8 @@ use Rattle.format.specs.declared.instruction.AddressMode.{AddressMode}
 use Rattle.format.specs.declared.instruction.AddressMode.the-variants as A
 use Rattle.format.specs.declared.instruction.MiddleMode.{MiddleMode}
 use Rattle.format.specs.declared.instruction.MiddleMode.the-variants as M
-use Rattle.format.specs.Reading.{got, found, past, endOf, ends}
+use Rattle.format.specs.Reading.{got, found, past}
+use Rattle.laws.specs.Loops.{endOf, ends}
 use Rattle.format.specs.Operands.{byte, operandAt}
 use Rattle.format.specs.Records.{modes, middleModes, modeOf, modeNumber, middleOf, middleNumber}
 use Rattle.format.specs.Sections.{oneRegister, twoRegisters, addressedAt, middleRegister, middleAt, operandsAt, instructionAt}

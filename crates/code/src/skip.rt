@@ -8,7 +8,7 @@ use reader::EndRead;
 ghost use mathlib.Core.Path.{_≡_};
 ghost use Prim.Native.Nat.{_+_, _*_, _≤_};
 ghost use lib.ListN.{length};
-ghost use Rattle.format.specs.Reading.{endOf};
+ghost use Rattle.laws.specs.Loops.{endOf};
 ghost use Rattle.format.specs.Sections.{instructionAt};
 ghost use Rattle.reader.specs.View.{endRead};
 ghost use Rattle.code.specs.Plain as Spec;

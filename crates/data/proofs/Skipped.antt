@@ -11,7 +11,8 @@ use Rattle.format.specs.declared.types.Cursor.{Cursor}
 use Rattle.format.specs.declared.module.DataItem.{DataItem}
 use Rattle.format.specs.declared.module.DataKind.{DataKind}
 use Rattle.format.specs.declared.refusal.Refusal.{Refusal}
-use Rattle.format.specs.Reading.{Step, got, refused, andThen, give, ends, stops, endOf}
+use Rattle.format.specs.Reading.{Step, got, refused, andThen, give}
+use Rattle.laws.specs.Loops.{ends, stops, endOf}
 use Rattle.format.specs.Records.{shapeOf}
 use Rattle.format.specs.Sections.{passOver, itemOf, valueAt}
 use Rattle.laws.proofs.Scans.{end-named}

@@ -23,13 +23,13 @@ use values::module::shape_of;
 ghost use mathlib.Core.Path.{_≡_};
 ghost use Prim.Native.Nat.{_-_, _/_, _≤_, _<_, _^_};
 ghost use lib.ListN.{length};
-ghost use Rattle.format.specs.Reading.{endOf};
+ghost use Rattle.laws.specs.Loops.{endOf};
 ghost use Rattle.format.specs.Records.{sizeLimit, shapeOf, elementsOf, lengthOf};
 ghost use Rattle.format.specs.Sections.{elementsAt, offsetAt, passOver, itemOf, valueAt, codedAt, itemAt};
 ghost use Rattle.pieces.specs.View.{countRead};
 ghost use Rattle.reader.specs.View.{endRead};
 ghost use Rattle.data.specs.View.{offsetRead, itemStep, itemRead};
-ghost use Rattle.laws.proofs.Passed.{passWords};
+ghost use Rattle.laws.specs.Passed.{passWords};
 
 pub enum OffsetRead {
     Got { offset: i32, next: Cursor },

@@ -12,7 +12,7 @@ use reader::EndRead;
 use reader::read_byte;
 use values::module::data_kind;
 ghost use mathlib.Core.Path.{_≡_};
-ghost use Rattle.format.specs.Reading.{endOf};
+ghost use Rattle.laws.specs.Loops.{endOf};
 ghost use Rattle.format.specs.Sections.{codedAt, itemAt};
 ghost use Rattle.reader.specs.View.{endRead};
 ghost use Rattle.data.specs.View.{itemEnd, skipped};

@@ -9,7 +9,8 @@ use lib.IntN.{ℤ}
 use Rattle.laws.proofs.Types.{State}
 use Rattle.format.specs.Load.{loadOf}
 use Rattle.format.specs.Writing.{writeOf}
-use Rattle.format.specs.Walk.{Event, entry, export, next, raise, stateOf, answers, after}
+use Rattle.format.specs.Walk.{Event, entry, export, next, raise}
+use Rattle.walked.specs.Sequences.{stateOf, answers, after}
 use Rattle.laws.proofs.OperandBack.{Bytes}
 use Rattle.demands.proofs.Calls.{Call, Tables, Load, Write, Happens, Run, walk}
 

@@ -12,7 +12,8 @@ use Rattle.tables.specs.Laid.{CheckSays}
 use Rattle.format.specs.Load.{loadOf}
 use Rattle.format.specs.Writing.{writeOf}
 use Rattle.format.specs.Walk as Walk
-use Rattle.format.specs.Walk.{Event, walkOf, stateOf, answers, after}
+use Rattle.format.specs.Walk.{Event, walkOf}
+use Rattle.walked.specs.Sequences.{stateOf, answers, after}
 use Rattle.laws.proofs.OperandBack.{Bytes}
 use Rattle.load.proofs.load.Reads as load
 use Rattle.write.proofs.write.Reads as write

@@ -19,7 +19,8 @@ use Rattle.format.specs.Records.{Records, moduleOf, sizeLimit}
 use Rattle.format.specs.Sections.{parse}
 use Rattle.format.specs.Content.{contentOf}
 use Rattle.format.specs.Writing.{encode}
-use Rattle.format.specs.Walk.{Event, answers, after}
+use Rattle.format.specs.Walk.{Event}
+use Rattle.walked.specs.Sequences.{answers, after}
 use Rattle.laws.proofs.Loads.{Accepted, accepted}
 use Rattle.laws.proofs.Many.{All}
 use Rattle.laws.proofs.OperandBack.{Bytes}

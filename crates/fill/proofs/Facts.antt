@@ -15,18 +15,18 @@ use Rattle.format.specs.declared.module.Handler.{Handler}
 use Rattle.format.specs.declared.refusal.Refusal.{Refusal}
 use Rattle.format.specs.declared.refusal.Refusal.the-variants.{Ended, TooLarge}
 use Rattle.format.specs.Put.{put}
-use Rattle.format.specs.Reading.{Step, got, refused, found, short, Reads, andThen, give, thenPlace, many, leading, reached, Whole}
+use Rattle.format.specs.Reading.{Step, got, refused, found, short, Reads, andThen, give, many}
+use Rattle.laws.specs.Loops.{thenPlace, leading, reached, Whole, renamed, someOf}
 use Rattle.format.specs.Operands.{operandAt}
 use Rattle.format.specs.Words.{flatten, caseWords, handlerWords}
 use Rattle.format.specs.Sections.{nowhere, itemAt, countIn, functionAt, importAt, caseAt, lastAt, casesAt, headAt, handlerAt, closing, underFlag}
 use Rattle.laws.proofs.Fills.{Filling, fits, turn, cut}
 use Rattle.laws.proofs.Flatten.{flatten-append}
-use Rattle.laws.proofs.Groups.{Cased}
+use Rattle.laws.specs.Cased.{Cased}
 use Rattle.laws.proofs.Many.{many-length}
 use Rattle.laws.proofs.Parsed.{flag-not}
 use Rattle.laws.proofs.Put.{put-next, put-none}
-use Rattle.laws.proofs.Scans.{renamed, leading-renamed, reached-renamed, flatten-renamed}
-use Rattle.laws.proofs.Until.{someOf}
+use Rattle.laws.proofs.Scans.{leading-renamed, reached-renamed, flatten-renamed}
 use Rattle.laws.proofs.Whole.{whole-part, whole-got, whole-many, whole-first, whole-next}
 use Rattle.rows.specs.declared.Kind.the-variants as K
 use Rattle.rows.specs.Row.{Row}
@@ -35,7 +35,7 @@ use Rattle.rows.specs.declared.groups.Group.{Group}
 use Rattle.rows.specs.declared.groups.Group.the-variants as G
 use Rattle.rows.specs.Rows.{rowAt, rowWords}
 use Rattle.rows.specs.Groups.{groupAt, groupWords, sectionOf, bitOf, flagOf, flaggedAt}
-use Rattle.fill.specs.declared.runs.Filled.{Filled}
+use Rattle.fill.specs.declared.filled.Filled.{Filled}
 use Rattle.fill.specs.Filled.{Done, Ready, One, wordsIn, listIn}
 
 -- ---- one row, stored where it is read

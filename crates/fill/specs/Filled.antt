@@ -6,12 +6,13 @@ use lib.IntN.{ℤ}
 use lib.ListN.{length}
 use Rattle.format.specs.declared.types.Cursor.{Cursor}
 use Rattle.format.specs.Put.{put}
-use Rattle.format.specs.Reading.{Step, got, refused, Reads, thenPlace, leading, reached, Whole}
+use Rattle.format.specs.Reading.{Step, got, refused, Reads}
+use Rattle.laws.specs.Loops.{thenPlace, leading, reached, Whole}
 use Rattle.format.specs.Words.{flatten}
 use Rattle.rows.specs.declared.Kind.{Kind}
 use Rattle.rows.specs.Rows.{rowAt, rowWords}
 use Rattle.rows.specs.Groups.{Grouped, groupWords}
-use Rattle.fill.specs.declared.runs.Filled.{Filled}
+use Rattle.fill.specs.declared.filled.Filled.{Filled}
 
 -- xs at a place of l, and what was read next
 pub record Done (xs : List ℤ) (end : Cursor) (w : ℕ) (l : List ℤ) (r : Filled) (now : List ℤ) : Type 0 where

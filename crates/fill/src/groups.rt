@@ -1,5 +1,5 @@
 // Import modules with their functions, handlers with their cases.
-use crate::runs::Filled;
+use crate::filled::Filled;
 use crate::runs::fill_rows;
 use format::module::ExceptionCase;
 use format::types::Cursor;
@@ -19,7 +19,8 @@ use store::put_handler;
 use store::put_import;
 ghost use Prim.Native.Nat.{_+_, _≤_};
 ghost use lib.ListN.{length};
-ghost use Rattle.format.specs.Reading.{many, leading, Whole};
+ghost use Rattle.format.specs.Reading.{many};
+ghost use Rattle.laws.specs.Loops.{leading, Whole};
 ghost use Rattle.format.specs.Records.{sizeLimit};
 ghost use Rattle.format.specs.Sections.{lastAt};
 ghost use Rattle.format.specs.Words.{flatten, caseWords};

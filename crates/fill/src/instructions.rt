@@ -1,5 +1,5 @@
 // The words of instructions. Where an instruction is plain its numbers are stored as they are read: no record is built, and no refusal is in sight.
-use crate::runs::Filled;
+use crate::filled::Filled;
 use code::InstructionRead;
 use code::plain::first_of;
 use code::plain::is_plain;

@@ -1,5 +1,6 @@
 // The second pass: the table words, from a place on, in file order. The file was scanned: what is read here was read before.
+pub mod filled;
 pub mod groups;
-pub mod instructions;
-pub mod records;
+mod instructions;
+mod records;
 pub mod runs;

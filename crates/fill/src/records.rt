@@ -1,6 +1,6 @@
 // One row of each kind, read and stored; where it is refused, nothing.
 use crate::instructions::fill_instruction;
-use crate::runs::Filled;
+use crate::filled::Filled;
 use data::ItemRead;
 use data::read_item;
 use format::types::Cursor;

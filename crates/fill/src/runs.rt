@@ -1,20 +1,15 @@
 // One loop for every run of records of one kind.
+use crate::filled::Filled;
 use crate::records::fill_row;
 use format::types::Cursor;
 use rows::Kind;
 ghost use Prim.Native.Nat.{_+_, _≤_};
 ghost use lib.ListN.{length};
-ghost use Rattle.format.specs.Reading.{leading};
+ghost use Rattle.laws.specs.Loops.{leading};
 ghost use Rattle.format.specs.Records.{sizeLimit};
 ghost use Rattle.format.specs.Words.{flatten};
 ghost use Rattle.rows.specs.Rows.{rowAt, rowWords};
 ghost use Rattle.fill.specs.Filled.{Rows};
-
-// Where the reading stopped, and the place after the words.
-pub struct Filled {
-    pub next: Cursor,
-    pub place: usize,
-}
 
 // Every row has words: where none was stored, it was refused.
 pub fn fill_rows(

@@ -7,12 +7,9 @@ use lib.Count.{ones}
 use lib.Dec.{eqb}
 use lib.IntN.{ℤ, pos}
 use lib.ListN.{length, getElem?}
-use Rattle.format.specs.Types.{Span, TypeDescriptor, AddressMode, MiddleMode, MaybeAddressMode, MaybeMiddleMode, Addressing, Instruction, Flag, DataKind, MaybeDataKind, Shape, Header, DataItem, ExportEntry, ImportEntry, Handler, ExceptionCase, Module}
+use Rattle.format.specs.Types.{Span, TypeDescriptor, AddressMode, MiddleMode, Addressing, Instruction, Flag, DataKind, Shape, Header, DataItem, ExportEntry, ImportEntry, Handler, ExceptionCase, Module}
 use Rattle.format.specs.declared.instruction.AddressMode.the-variants as A
 use Rattle.format.specs.declared.instruction.MiddleMode.the-variants as M
-use Rattle.format.specs.declared.instruction.MaybeAddressMode.the-variants as MA
-use Rattle.format.specs.declared.instruction.MaybeMiddleMode.the-variants as MM
-use Rattle.format.specs.declared.module.MaybeDataKind.the-variants as MK
 use Rattle.format.specs.declared.module.DataKind.the-variants.{Bytes, Words, String, Reals, Array, SetArray, Restore, Bigs}
 use Rattle.format.specs.declared.module.Shape.the-variants as S
 use Rattle.format.specs.declared.module.Flag.the-variants.{MustCompile, DontCompile, HasHandler, HasImport}
@@ -151,17 +148,3 @@ lengthOf S.Bytes n = n
 lengthOf (S.Words k) n = k * n * 4
 lengthOf (S.Single k) n = k * 4
 lengthOf S.Nothing n = 0
-
--- ---- the code's answers, as options
-
-abbrev pub maybeMode : MaybeAddressMode → Option AddressMode
-maybeMode (MA.Is mode) = some mode
-maybeMode MA.Reserved = none
-
-abbrev pub maybeMiddle : MaybeMiddleMode → Option MiddleMode
-maybeMiddle (MM.Is mode) = some mode
-maybeMiddle MM.Reserved = none
-
-abbrev pub maybeKind : MaybeDataKind → Option DataKind
-maybeKind (MK.Is kind) = some kind
-maybeKind MK.Unknown = none

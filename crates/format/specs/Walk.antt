@@ -124,18 +124,3 @@ inTables s (refused why) k = Refused why s
 
 unfoldable pub walkOf : Module → List ℕ → List ℤ → Event → State → WalkAnswer
 walkOf m file words event s = inTables s (recordsOf m file words) (λ r. moved file r event s)
-
--- ---- events one after the other, each from the state that the one before it left: what they answer, and the state after them
-
-abbrev pub stateOf : WalkAnswer → State
-stateOf (Walked s) = s
-stateOf (Refused why s) = s
-
-module _ (answer : Event → State → WalkAnswer) where
-  abbrev pub answers : List Event → State → List WalkAnswer
-  answers [] s = []
-  answers (e ∷ es) s = answer e s ∷ answers es (stateOf (answer e s))
-
-  abbrev pub after : List Event → State → State
-  after [] s = s
-  after (e ∷ es) s = after es (stateOf (answer e s))

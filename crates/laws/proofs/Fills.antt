@@ -7,7 +7,8 @@ use native.Mathlib.Omega.{arith}
 use lib.ListN.{length}
 use Rattle.laws.proofs.Types.{Refusal}
 use Rattle.format.specs.Put.{put}
-use Rattle.format.specs.Reading.{got, refused, Reads, leading, reached}
+use Rattle.format.specs.Reading.{got, refused, Reads}
+use Rattle.laws.specs.Loops.{leading, reached}
 use Rattle.format.specs.Words.{flatten}
 use Rattle.laws.proofs.Put.{length-put}
 use Rattle.laws.proofs.Many.{leading-done, leading-stop}

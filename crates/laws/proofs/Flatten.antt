@@ -7,7 +7,8 @@ use native.Mathlib.Nat.{zero-mul, suc-mul}
 use native.Mathlib.Omega.{arith}
 use lib.ListN.{length, length-append}
 use Rattle.laws.proofs.Types.{Refusal}
-use Rattle.format.specs.Reading.{got, refused, Reads, leading, total}
+use Rattle.format.specs.Reading.{got, refused, Reads}
+use Rattle.laws.specs.Loops.{leading, total}
 use Rattle.format.specs.Words.{flatten}
 use Rattle.format.specs.Put.{put}
 use Rattle.laws.proofs.Many.{leading-done, leading-turn, leading-stop}

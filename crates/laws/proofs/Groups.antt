@@ -15,15 +15,11 @@ use Rattle.format.specs.Reading.{Step, got, refused, andThen, _>>=_, _>>_, give
 use Rattle.format.specs.Records.{has}
 use Rattle.format.specs.Sections.{Reading, counted, countedBy, operandIn, fourIn, countIn, headAt, closing, underFlag}
 use Rattle.laws.proofs.Many.{parts-of}
-use Rattle.laws.proofs.Scans.{renamed, many-renamed}
+use Rattle.laws.proofs.Scans.{many-renamed}
+use Rattle.laws.specs.Loops.{renamed}
+use Rattle.laws.specs.Cased.{Cased}
 
 -- ---- a handler has a case, and at most as many as 16 bits say, and the last
-
-pub record Cased (z : ℤ) : Type 0 where
-  pub number : ℕ
-  pub is : z ≡ pos number
-  pub least : 1 ≤ number
-  pub most : number ≤ 2 ^ 16
 
 pub head-cases : (file : List ℕ) (c : Cursor) {h : Handler} {d : Cursor} → headAt file c ≡ got h d → Cased (h .cases)
 unfolding headAt

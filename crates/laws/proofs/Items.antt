@@ -9,7 +9,8 @@ use lib.ListN.{length}
 use Rattle.laws.proofs.Types.{Cursor, Refusal, DataItem}
 use Rattle.format.specs.Reading.{got, refused, before, many}
 use Rattle.format.specs.Sections.{itemAt, itemsAt}
-use Rattle.laws.proofs.Until.{until-turn, until-end, until-stop, someOf, until-many}
+use Rattle.laws.proofs.Until.{until-turn, until-end, until-stop, until-many}
+use Rattle.laws.specs.Loops.{someOf}
 use Rattle.laws.proofs.Moves.{item-moves, moves-less}
 
 module _ (file : List ℕ) where

@@ -1,4 +1,3 @@
-pub mod Cut
 pub mod Fields
 pub mod Fills
 pub mod Flatten

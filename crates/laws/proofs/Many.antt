@@ -8,7 +8,8 @@ use native.Mathlib.Numerals.{sub-one}
 use native.Mathlib.Omega.{arith}
 use lib.ListN.{length, length-append}
 use Rattle.laws.proofs.Types.{Refusal}
-use Rattle.format.specs.Reading.{Step, got, refused, Reads, andThen, give, before, many, leading, ends, stops, endOf}
+use Rattle.format.specs.Reading.{Step, got, refused, Reads, andThen, give, before, many}
+use Rattle.laws.specs.Loops.{leading, ends, stops, endOf}
 use Rattle.format.specs.Words.{flatten}
 
 -- ---- what was got was got from parts

@@ -13,6 +13,7 @@ use Rattle.laws.proofs.Types.{Cursor, Ended}
 use Rattle.format.specs.Reading.{past, Step, got, refused, andThen, _>>_, give, before, many}
 use Rattle.format.specs.Operands.{wordAt}
 use Rattle.format.specs.Sections.{Reading, wordIn}
+use Rattle.laws.specs.Passed.{passWords}
 
 pass-before : {A B : Type 0} (x : A) (b : B) (s : Step Cursor (List A)) → andThen (before x s) (λ _. give b) ≡ andThen s (λ _. give b)
 pass-before x b (got xs c) = refl
@@ -23,25 +24,22 @@ either a b true e = inl (leb-true a b e)
 either a b false e = inr (leb-false a b e)
 
 module _ (file : List ℕ) (section : ℕ) where
-  abbrev pub passWords : ℕ → Reading (Unit {0})
-  passWords n = many (wordIn file section) n >> give tt
-
-  one-whole : (n : ℕ) (c : Cursor) → c .at + 4 ≤ length file → passWords (suc n) c ≡ passWords n (past c 4)
+  one-whole : (n : ℕ) (c : Cursor) → c .at + 4 ≤ length file → passWords file section (suc n) c ≡ passWords file section n (past c 4)
   unfolding many wordAt
   one-whole n c h = rw (le-leb (c .at + 4) (length file) h) (pass-before _ tt (many (wordIn file section) n (past c 4)))
 
-  one-cut : (n : ℕ) (c : Cursor) → length file < c .at + 4 → passWords (suc n) c ≡ refused (Ended section (c .at))
+  one-cut : (n : ℕ) (c : Cursor) → length file < c .at + 4 → passWords file section (suc n) c ≡ refused (Ended section (c .at))
   unfolding many wordAt
   one-cut n c h = rw (lt-leb (c .at + 4) (length file) h)
 
-  pub words-whole : (n : ℕ) (c : Cursor) → n ≤ (length file - c .at) / 4 → passWords n c ≡ got tt (past c (n * 4))
+  pub words-whole : (n : ℕ) (c : Cursor) → n ≤ (length file - c .at) / 4 → passWords file section n c ≡ got tt (past c (n * 4))
   unfolding many
   words-whole zero c h = let e : c .at ≡ c .at + 0 = omega arith in ap (λ (k : ℕ). got tt (record { at = k })) e
   words-whole (suc n) c h =
       let e : c .at + 4 + n * 4 ≡ c .at + suc n * 4 = omega arith in
       one-whole n c (omega arith) ∙ words-whole n (past c 4) (omega arith) ∙ ap (λ (k : ℕ). got tt (record { at = k })) e
 
-  pub words-cut : (n : ℕ) (c : Cursor) → (length file - c .at) / 4 < n → passWords n c ≡ refused (Ended section (c .at + (length file - c .at) / 4 * 4))
+  pub words-cut : (n : ℕ) (c : Cursor) → (length file - c .at) / 4 < n → passWords file section n c ≡ refused (Ended section (c .at + (length file - c .at) / 4 * 4))
   words-cut zero c k = absurd (omega arith)
   words-cut (suc n) c k = ⊎-elim
       (λ i.

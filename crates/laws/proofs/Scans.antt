@@ -7,7 +7,8 @@ use native.Mathlib.Nat.{zero-add, add-assoc}
 use native.Mathlib.Omega.{arith}
 use lib.ListN.{length}
 use Rattle.laws.proofs.Types.{Refusal}
-use Rattle.format.specs.Reading.{Step, got, refused, Reads, andThen, give, before, many, leading, thenList, endOf, thenPlace, reached, total, tally}
+use Rattle.format.specs.Reading.{Step, got, refused, Reads, andThen, give, before, many}
+use Rattle.laws.specs.Loops.{renamed, leading, thenList, endOf, thenPlace, reached, total, tally}
 use Rattle.format.specs.Words.{flatten}
 use Rattle.laws.proofs.Many.{parts-of, many-done, many-turn, many-stop, many-ind}
 
@@ -83,9 +84,6 @@ reached-many read = many-ind read (λ n p xs q. reached read n p ≡ q) (λ p. r
     reached-turn read (suc n) p (omega arith) e ∙ ap (λ (k : ℕ). reached read k next) down ∙ ih)
 
 -- ---- records under another name
-
-abbrev pub renamed : {P A B : Type 0} → (A → B) → Reads P A → Reads P B
-renamed name read p = andThen (read p) (λ x. give (name x))
 
 pub end-named : {P A B : Type 0} (name : A → B) (s : Step P A) → endOf (andThen s (λ x. give (name x))) ≡ endOf s
 unfolding endOf

@@ -9,6 +9,7 @@ use native.Mathlib.Omega.{arith}
 use Rattle.laws.proofs.Types.{Refusal}
 use Rattle.format.specs.Reading.{Step, got, refused, Reads, andThen, _>>=_, given, before, orEnd, many, untilNone}
 use Rattle.laws.proofs.Many.{parts-of, before-got}
+use Rattle.laws.specs.Loops.{someOf}
 
 module _ {P A : Type 0} (read : Reads P (Option A)) where
   pub until-end : (n : ℕ) (p : P) {next : P} → read p ≡ got none next → untilNone read n p ≡ got [] next
@@ -75,17 +76,14 @@ module _ {P A : Type 0} (read : Reads P (Option A)) (left : P → ℕ) (less : (
 -- ---- the same records as `many` reads of them, where none is a refusal
 
 module _ {P A : Type 0} (read : Reads P (Option A)) (why : Refusal) where
-  abbrev pub someOf : Reads P A
-  someOf = read >>= given why
-
-  of-some : (p : P) {x : A} {next : P} → read p ≡ got (some x) next → someOf p ≡ got x next
+  of-some : (p : P) {x : A} {next : P} → read p ≡ got (some x) next → someOf read why p ≡ got x next
   of-some p e = rw e
 
   -- all of them, and then none
   pub until-many : (left : P → ℕ) → ((p : P) (x : Option A) (next : P) → read p ≡ got x next → left next < left p)
       → (n : ℕ) (p : P) {xs : List A} {q : P} → left p ≤ n → untilNone read n p ≡ got xs q
-      → (last : P) × (many someOf (length xs) p ≡ got xs last) × (read last ≡ got none q)
+      → (last : P) × (many (someOf read why) (length xs) p ≡ got xs last) × (read last ≡ got none q)
   unfolding many
   until-many left less =
-      until-ind read left less (λ p xs q. (last : P) × (many someOf (length xs) p ≡ got xs last) × (read last ≡ got none q)) (λ p q e. (p, refl, e))
+      until-ind read left less (λ p xs q. (last : P) × (many (someOf read why) (length xs) p ≡ got xs last) × (read last ≡ got none q)) (λ p q e. (p, refl, e))
       (λ p next q x xs e ih. (ih .0, rw (of-some p e, ih .1), ih .2))

@@ -6,7 +6,8 @@ use mathlib.Core.List.{List, [], _∷_, _++_}
 use mathlib.Core.Option.{Option, none, some}
 use native.Mathlib.Omega.{arith}
 use Rattle.laws.proofs.Types.{Cursor, ExceptionCase, Refusal}
-use Rattle.format.specs.Reading.{Step, got, refused, Reads, andThen, give, sound, before, many, leading, reached, Whole}
+use Rattle.format.specs.Reading.{Step, got, refused, Reads, andThen, give, sound, before, many}
+use Rattle.laws.specs.Loops.{leading, reached, Whole}
 use Rattle.format.specs.Sections.{caseAt, lastAt, casesAt}
 use Rattle.format.specs.Checks.{firstOf}
 use Rattle.laws.proofs.Many.{parts-of, many-done, many-turn, many-stop, many-leading, leading-done, leading-turn, leading-stop}

@@ -16,7 +16,8 @@ use Rattle.format.specs.declared.refusal.Refusal.the-variants.{FewWords}
 use Rattle.format.specs.declared.module.LoadAnswer.the-variants.{Loaded, Refused}
 use Rattle.format.specs.Load.{loadOf}
 use Rattle.format.specs.Put.{put}
-use Rattle.format.specs.Reading.{Step, got, refused, many, leading, front, Whole}
+use Rattle.format.specs.Reading.{Step, got, refused, many, front}
+use Rattle.laws.specs.Loops.{leading, Whole}
 use Rattle.format.specs.Records.{Records, moduleOf, has, sizeLimit, wordLimit}
 use Rattle.format.specs.Words.{instructionWidth, typeWidth, itemWidth, exportWidth, importWords, handledWords, tableWords, wordsNeeded}
 use Rattle.format.specs.Sections.{Reading, countIn, countedBy, exportAt, handlerAt, underFlag, parse}

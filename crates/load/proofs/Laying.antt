@@ -9,12 +9,12 @@ use lib.ListN.{length, length-append}
 use Rattle.format.specs.declared.types.Cursor.{Cursor}
 use Rattle.format.specs.declared.refusal.Refusal.the-variants.{TooLarge}
 use Rattle.format.specs.Put.{put}
-use Rattle.format.specs.Reading.{got, leading, front, Whole}
+use Rattle.format.specs.Reading.{got, front}
+use Rattle.laws.specs.Loops.{leading, Whole, renamed, someOf}
 use Rattle.format.specs.Words.{flatten, instructionWords, typeWords, itemWords, exportWords, importWords, handledWords, tableWords, wordsNeeded}
 use Rattle.format.specs.Sections.{Reading, instructionAt, typeAt, itemAt, exportAt, importAt, handlerAt, parse}
 use Rattle.laws.proofs.Many.{many-leading}
-use Rattle.laws.proofs.Scans.{renamed, leading-renamed, flatten-renamed}
-use Rattle.laws.proofs.Until.{someOf}
+use Rattle.laws.proofs.Scans.{leading-renamed, flatten-renamed}
 use Rattle.laws.proofs.Items.{items-many}
 use Rattle.laws.proofs.Groups.{flag-renamed}
 use Rattle.laws.proofs.Needed.{Laid, laid-more}

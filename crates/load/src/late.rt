@@ -17,6 +17,7 @@ ghost use Prim.Native.Nat.{suc, _≤_, _<_, _^_};
 ghost use lib.ListN.{length};
 ghost use Rattle.format.specs.Checks.{firstOf, handlerFault, faultIn};
 ghost use Rattle.format.specs.Reading as Spec;
+ghost use Rattle.laws.specs.Loops.{Whole};
 ghost use Rattle.format.specs.Records.{sizeLimit};
 ghost use Rattle.format.specs.Sections.{handlerAt, underFlag, parse};
 ghost use Rattle.checks.specs.View.{faultOf};
@@ -24,7 +25,7 @@ ghost use Rattle.load.specs.Whole.{Surveyed, ofRead};
 
 // The handlers of section 8, where it stands.
 fn check_handler_section(file: &[u8], flags: i32, c: Cursor, code: usize, types: usize) -> Fault
-    requires { ⌜ (length (now file) ≤ sizeLimit) × (suc code < 2 ^ 64) × Spec.Whole (underFlag (now file) 32 flags 8 (handlerAt (now file)) c) ⌝ }
+    requires { ⌜ (length (now file) ≤ sizeLimit) × (suc code < 2 ^ 64) × Whole (underFlag (now file) 32 flags 8 (handlerAt (now file)) c) ⌝ }
     ensures { λ r. ⌜ faultOf r ≡ ofRead none (firstOf (handlerFault code types) 0) (underFlag (now (file .entry)) 32 flags 8 (handlerAt (now (file .entry))) c) ⌝ }
 {
     if !contains(flags, Flag::HasHandler) {

@@ -16,7 +16,7 @@ use Rattle.format.specs.Sections.{nowhere, itemOf}
 use Rattle.format.specs.WellFormed.{isName, magicRight}
 use Rattle.format.specs.Content.{numbersOf}
 use Rattle.laws.proofs.Fields.{Unused, MiddleUnused}
-use Rattle.laws.proofs.Groups.{Cased}
+use Rattle.laws.specs.Cased.{Cased}
 use Rattle.laws.proofs.Many.{All}
 use Rattle.laws.proofs.Narrow.{Fits30, Fits32}
 use Rattle.laws.proofs.OperandBack.{Bytes}

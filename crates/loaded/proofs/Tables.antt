@@ -24,7 +24,7 @@ use Rattle.format.specs.WellFormed.{withSome, onlyIf, numbered, sameSpan, opera
 use Rattle.laws.proofs.Fields.{mode-back, middle-mode-back, kind-back}
 use Rattle.laws.proofs.Flatten.{flatten-append}
 use Rattle.laws.proofs.Froms.{only-if}
-use Rattle.laws.proofs.Groups.{Cased}
+use Rattle.laws.specs.Cased.{Cased}
 use Rattle.laws.proofs.Many.{All, many-read-back}
 use Rattle.laws.proofs.Truth.{same-as, same-span}
 use Rattle.loaded.proofs.Good.{OperandGood, MiddleGood, InstructionGood, TypeGood, ItemGood, ExportGood, FunctionGood, ImportGood, CaseGood, LastGood, CasesGood, HeadGood, HandledGood, Good}

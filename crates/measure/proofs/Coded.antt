@@ -6,7 +6,8 @@ use mathlib.Core.List.{List}
 use mathlib.Core.Option.{none}
 use lib.IntN.{ℤ}
 use Rattle.format.specs.declared.instruction.Instruction.{Instruction}
-use Rattle.format.specs.Reading.{got, Whole}
+use Rattle.format.specs.Reading.{got}
+use Rattle.laws.specs.Loops.{Whole}
 use Rattle.format.specs.Records.{wordLimit}
 use Rattle.format.specs.WellFormed.{instructionFrom}
 use Rattle.format.specs.Writing.{instructionLine}

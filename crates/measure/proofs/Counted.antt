@@ -11,7 +11,8 @@ use mir.Syntax.{w32}
 use mir.Val.{toZ, ofZ}
 use borrow.Author.Tests.{le-ltb}
 use Rattle.format.specs.declared.module.Handler.{Handler}
-use Rattle.laws.proofs.Groups.{Cased, cases-are}
+use Rattle.laws.proofs.Groups.{cases-are}
+use Rattle.laws.specs.Cased.{Cased}
 use Rattle.format.specs.declared.refusal.Refusal.the-variants.{WideOperand}
 use Rattle.format.specs.Operands.{operandLen}
 use Rattle.format.specs.Reading.{got, refused}

@@ -6,7 +6,8 @@ use mathlib.Core.List.{List}
 use native.Mathlib.Omega.{arith}
 use lib.IntN.{ℤ}
 use Rattle.format.specs.declared.module.Handler.{Handler}
-use Rattle.format.specs.Reading.{Step, got, Reads, thenPlace, many, reached, Whole}
+use Rattle.format.specs.Reading.{Step, got, Reads, many}
+use Rattle.laws.specs.Loops.{thenPlace, reached, Whole}
 use Rattle.format.specs.Records.{wordLimit}
 use Rattle.format.specs.Words.{importWidth, handlerWidth}
 use Rattle.format.specs.WellFormed.{functionCountFrom, importFrom, handlerFrom, handledFrom, lastFrom}

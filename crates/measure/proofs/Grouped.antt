@@ -10,7 +10,8 @@ use lib.Signed.{mag}
 use lib.ListN.{length, length-append, length-map}
 use Rattle.format.specs.declared.module.Handler.{Handler}
 use Rattle.format.specs.declared.module.ExceptionCase.{ExceptionCase}
-use Rattle.format.specs.Reading.{Step, got, refused, Reads, andThen, give, thenPlace, many, leading, reached, Whole}
+use Rattle.format.specs.Reading.{Step, got, refused, Reads, andThen, give, many}
+use Rattle.laws.specs.Loops.{thenPlace, leading, reached, Whole, renamed}
 use Rattle.format.specs.declared.refusal.Refusal.{Refusal}
 use Rattle.format.specs.Records.{wordLimit}
 use Rattle.format.specs.Words.{flatten, importWidth, handlerWidth, caseWidth}
@@ -18,7 +19,7 @@ use Rattle.format.specs.WellFormed.{word, numbered, functionCountFrom, function
 use Rattle.format.specs.Content.{functionShown, caseShown}
 use Rattle.format.specs.Writing.{Line, functionLine, caseLine, lastLine, caseLines}
 use Rattle.laws.proofs.Many.{many-length}
-use Rattle.laws.proofs.Scans.{renamed, leading-renamed, reached-renamed, many-renamed, flatten-renamed}
+use Rattle.laws.proofs.Scans.{leading-renamed, reached-renamed, many-renamed, flatten-renamed}
 use Rattle.laws.proofs.Whole.{whole-part, whole-got, whole-many}
 use Rattle.rows.specs.declared.Kind.the-variants as K
 use Rattle.rows.specs.Row.{Row}

@@ -8,7 +8,8 @@ use native.Mathlib.Omega.{arith}
 use lib.IntN.{ℤ}
 use lib.ListN.{length, length-append}
 use Rattle.format.specs.Operands.{encodeOperand}
-use Rattle.format.specs.Reading.{got, Reads, many, leading, reached, Whole}
+use Rattle.format.specs.Reading.{got, Reads, many}
+use Rattle.laws.specs.Loops.{leading, reached, Whole}
 use Rattle.format.specs.Words.{flatten}
 use Rattle.format.specs.Writing.{operand, Line, line, partBytes}
 use Rattle.laws.proofs.Many.{many-ind}

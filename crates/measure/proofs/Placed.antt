@@ -9,7 +9,8 @@ use mathlib.Core.Logic.{⊎-elim}
 use native.Mathlib.Omega.{arith}
 use lib.IntN.{ℤ, pos}
 use Rattle.format.specs.declared.module.Module.{Module}
-use Rattle.format.specs.Reading.{Reads, many, reached, Whole}
+use Rattle.format.specs.Reading.{Reads, many}
+use Rattle.laws.specs.Loops.{reached, Whole}
 use Rattle.format.specs.Records.{wordLimit}
 use Rattle.format.specs.WellFormed.{instructionFrom, typeFrom, itemFrom, exportFrom, importFrom, handledFrom}
 use Rattle.rows.specs.declared.Kind.{Kind}

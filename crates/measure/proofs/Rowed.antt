@@ -7,7 +7,8 @@ use mathlib.Core.Option.{none, some}
 use lib.IntN.{ℤ}
 use lib.ListN.{length}
 use Rattle.format.specs.declared.refusal.Refusal.the-variants.{WideOperand}
-use Rattle.format.specs.Reading.{got, refused, Whole}
+use Rattle.format.specs.Reading.{got, refused}
+use Rattle.laws.specs.Loops.{Whole}
 use Rattle.format.specs.Records.{sizeLimit}
 use Rattle.laws.proofs.Whole.{whole-got, whole-first}
 use Rattle.rows.specs.declared.Kind.{Kind}

@@ -9,7 +9,8 @@ use native.Mathlib.Nat.{add-zero}
 use native.Mathlib.Omega.{arith}
 use lib.ListN.{length, length-append}
 use Rattle.format.specs.declared.refusal.Refusal.{Refusal}
-use Rattle.format.specs.Reading.{got, refused, Reads, andThen, many, leading, Whole}
+use Rattle.format.specs.Reading.{got, refused, Reads, andThen, many}
+use Rattle.laws.specs.Loops.{leading, Whole}
 use Rattle.format.specs.Words.{flatten}
 use Rattle.format.specs.Checks.{_then_}
 use Rattle.format.specs.Writing.{Line, lineBytes, wideParts, wideFault}

@@ -5,7 +5,8 @@ use mathlib.Core.Path.{_≡_}
 use mathlib.Core.List.{List}
 use lib.IntN.{ℤ}
 use lib.ListN.{length}
-use Rattle.format.specs.Reading.{got, Whole}
+use Rattle.format.specs.Reading.{got}
+use Rattle.laws.specs.Loops.{Whole}
 use Rattle.format.specs.WellFormed.{typeThere, typeFrom, itemFrom, exportThere, exportFrom, functionThere, functionFrom, caseThere, caseFrom}
 use Rattle.rows.specs.declared.Kind.{Kind}
 use Rattle.rows.specs.declared.Kind.the-variants as K

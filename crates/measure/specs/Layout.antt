@@ -7,7 +7,8 @@ use mathlib.Core.List.{List, [], _∷_, _++_}
 use lib.IntN.{ℤ}
 use lib.ListN.{length}
 use Rattle.format.specs.declared.module.Module.{Module}
-use Rattle.format.specs.Reading.{many, leading, reached, Whole}
+use Rattle.format.specs.Reading.{many}
+use Rattle.laws.specs.Loops.{leading, reached, Whole}
 use Rattle.format.specs.Records.{sizeLimit, wordLimit}
 use Rattle.format.specs.Words.{flatten}
 use Rattle.format.specs.Operands.{shown}

@@ -7,7 +7,8 @@ use lib.IntN.{ℤ}
 use lib.ListN.{length}
 use Rattle.format.specs.declared.module.ExceptionCase.{ExceptionCase}
 use Rattle.format.specs.declared.refusal.Refusal.{Refusal}
-use Rattle.format.specs.Reading.{Step, got, refused, andThen, total}
+use Rattle.format.specs.Reading.{Step, got, refused, andThen}
+use Rattle.laws.specs.Loops.{total}
 use Rattle.format.specs.Words.{flatten, caseWidth}
 use Rattle.format.specs.Content.{functionShown, handlerShown}
 use Rattle.format.specs.Writing.{operand, Line, line, lineBytes, wideFault, importLines, handlerLines, flagged}

@@ -12,7 +12,7 @@ ghost use Prim.Native.Nat.{_+_, _^_, _≤_, _<_};
 ghost use lib.ListN.{length};
 ghost use Rattle.format.specs.Content.{numbersOf};
 ghost use Rattle.format.specs.Writing.{operand, line, headerLine};
-ghost use Rattle.laws.proofs.Groups.{Cased};
+ghost use Rattle.laws.specs.Cased.{Cased};
 ghost use Rattle.measure.specs.Heads.{oneLine, headLine};
 ghost use Rattle.measure.specs.Measured.{measured, sizeRead};
 

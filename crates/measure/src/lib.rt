@@ -1,7 +1,7 @@
 // The sizing pass over well-formed tables: refusal 21 in writing order, or the true length of what is written.
-pub mod groups;
-pub mod heads;
-pub mod runs;
+mod groups;
+mod heads;
+mod runs;
 pub mod whole;
 
 use format::refusal::Refusal;

@@ -1,5 +1,5 @@
 // What an event makes of a walk's state, in a module of so many instructions and types. No tables are read here.
-use checks::records::below;
+use values::ranges::below;
 use format::module::ExportEntry;
 use format::module::Header;
 use format::walk::Frame;

@@ -14,7 +14,7 @@ use reader::read_word;
 ghost use mathlib.Core.Path.{_≡_};
 ghost use Prim.Native.Nat.{_≤_};
 ghost use lib.ListN.{length};
-ghost use Rattle.format.specs.Reading.{endOf};
+ghost use Rattle.laws.specs.Loops.{endOf};
 ghost use Rattle.format.specs.Records.{sizeLimit};
 ghost use Rattle.format.specs.Sections.{nameIn, exportAt, functionAt};
 ghost use Rattle.pieces.specs.View.{spanStep};

@@ -29,7 +29,8 @@ use Rattle.laws.proofs.Many.{All}
 use Rattle.laws.proofs.Names.{shown-part, shown-empty}
 use Rattle.laws.proofs.Narrow.{Fits30, NarrowPart, Narrow}
 use Rattle.laws.proofs.OperandCases.{span-whole}
-use Rattle.laws.proofs.Passed.{passWords, words-whole}
+use Rattle.laws.proofs.Passed.{words-whole}
+use Rattle.laws.specs.Passed.{passWords}
 use Rattle.laws.proofs.Truth.{and-both}
 use Rattle.roundtrip.proofs.Back.{Stands, stands-first, stands-rest, stands-inside, stands-shown, Back, itself, back-give, back-then, back-last, back-here, back-byte, back-placed, back-count}
 

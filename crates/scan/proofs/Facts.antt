@@ -13,12 +13,14 @@ use Rattle.format.specs.declared.module.ImportEntry.{ImportEntry}
 use Rattle.format.specs.declared.module.ExceptionCase.{ExceptionCase}
 use Rattle.format.specs.declared.refusal.Refusal.{Refusal}
 use Rattle.format.specs.declared.refusal.Refusal.the-variants.{Ended}
-use Rattle.format.specs.Reading.{Step, got, refused, found, short, Reads, andThen, give, many, leading, ends, stops, endOf, tally}
+use Rattle.format.specs.Reading.{Step, got, refused, found, short, Reads, andThen, give, many}
+use Rattle.laws.specs.Loops.{leading, ends, stops, endOf, tally}
 use Rattle.format.specs.Operands.{operandAt}
 use Rattle.format.specs.Words.{flatten, importWords, handledWords}
 use Rattle.format.specs.Sections.{nowhere, countIn, functionAt, importAt, caseAt, lastAt, casesAt, headAt, handlerAt, closing, underFlag}
 use Rattle.laws.proofs.Flatten.{total-flatten}
-use Rattle.laws.proofs.Groups.{Cased, flag-renamed}
+use Rattle.laws.proofs.Groups.{flag-renamed}
+use Rattle.laws.specs.Cased.{Cased}
 use Rattle.laws.proofs.Limit.{import-weighs, handler-weighs}
 use Rattle.laws.proofs.Many.{many-length, scan-turn, scan-stop, scanned, ended, stopped}
 use Rattle.laws.proofs.Moves.{Forward, Moves, then-moves, give-moves, import-moves, handler-moves, weaker}

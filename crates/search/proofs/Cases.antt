@@ -14,14 +14,15 @@ use lib.ListN.{length}
 use lib.Signed.{mag}
 use Rattle.format.specs.declared.module.Handler.{Handler}
 use Rattle.format.specs.declared.module.ExceptionCase.{ExceptionCase}
-use Rattle.format.specs.Reading.{got, many, leading, Whole}
+use Rattle.format.specs.Reading.{got, many}
+use Rattle.laws.specs.Loops.{leading, Whole}
 use Rattle.format.specs.Operands.{shown}
 use Rattle.format.specs.Records.{Handled}
 use Rattle.format.specs.Words.{handlerWidth, caseWidth}
 use Rattle.format.specs.Sections.{nowhere}
 use Rattle.format.specs.WellFormed.{sameSpan, handlerThere, caseThere, handlerFrom, caseFrom, lastFrom, casesFrom, handledFrom}
 use Rattle.format.specs.Walk.{covers, takes}
-use Rattle.laws.proofs.Groups.{Cased}
+use Rattle.laws.specs.Cased.{Cased}
 use Rattle.laws.proofs.Many.{parts-of, many-ind, leading-turn, leading-done}
 use Rattle.laws.proofs.Names.{shows-nothing}
 use Rattle.laws.proofs.Whole.{whole-got, whole-first, whole-next}

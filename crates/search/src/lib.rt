@@ -1,5 +1,5 @@
 // raise: the first handler that covers a pc, and in it the first case that takes the name.
-pub mod compare;
+mod compare;
 
 use crate::compare::case_takes;
 use format::module::CASE_WIDTH;
@@ -8,7 +8,8 @@ use format::module::Handler;
 use table_handlers::case_there;
 use table_handlers::handler_there;
 ghost use mathlib.Core.Path.{_≡_};
-ghost use Rattle.format.specs.Reading.{many, leading, Whole};
+ghost use Rattle.format.specs.Reading.{many};
+ghost use Rattle.laws.specs.Loops.{leading, Whole};
 ghost use Rattle.format.specs.WellFormed.{handledFrom};
 ghost use Rattle.format.specs.Walk as Spec;
 ghost use Rattle.search.specs.Choice.{chosenIn};

@@ -6,11 +6,12 @@ use mathlib.Core.List.{List}
 use Rattle.format.specs.declared.types.Cursor.{Cursor}
 use Rattle.format.specs.declared.types.Placed.{Placed}
 use Rattle.format.specs.declared.refusal.Refusal.{Refusal}
-use Rattle.format.specs.Reading.{Step, got, refused, many, leading, ends, stops, endOf, tally}
+use Rattle.format.specs.Reading.{Step, got, refused, many}
+use Rattle.laws.specs.Loops.{leading, ends, stops, endOf, tally, renamed}
 use Rattle.format.specs.Sections.{Reading, counted, countedBy}
 use Rattle.laws.proofs.Groups.{counted-renamed}
 use Rattle.laws.proofs.Many.{many-length, scanned, stopped}
-use Rattle.laws.proofs.Scans.{renamed, all-renamed, tallied, untallied, total-ones}
+use Rattle.laws.proofs.Scans.{all-renamed, tallied, untallied, total-ones}
 use Rattle.laws.proofs.Told.{told}
 use Rattle.pieces.specs.declared.CountRead.{CountRead}
 use Rattle.pieces.specs.declared.CountRead.the-variants as CountRead-is

@@ -20,7 +20,7 @@ use scan::sections::scan_section;
 ghost use mathlib.Core.Path.{_≡_};
 ghost use Prim.Native.Nat.{_≤_};
 ghost use lib.ListN.{length};
-ghost use Rattle.format.specs.Reading.{tally};
+ghost use Rattle.laws.specs.Loops.{tally};
 ghost use Rattle.format.specs.Records.{sizeLimit};
 ghost use Rattle.format.specs.Sections.{countedBy};
 ghost use Rattle.pieces.specs.View.{countRead};

@@ -20,8 +20,10 @@ use Rattle.format.specs.declared.module.MaybeDataKind.{MaybeDataKind}
 use Rattle.format.specs.declared.module.Shape.{Shape}
 use Rattle.format.specs.declared.module.Shape.the-variants as S
 use Rattle.format.specs.Operands.{spanOf}
-use Rattle.format.specs.Reading.{got, Whole}
-use Rattle.format.specs.Records.{kinds, kindOf, maybeKind, shapeOf}
+use Rattle.format.specs.Reading.{got}
+use Rattle.laws.specs.Loops.{Whole}
+use Rattle.format.specs.Records.{kinds, kindOf, shapeOf}
+use Rattle.values.specs.View.{maybeKind}
 use Rattle.format.specs.Words.{itemWidth}
 use Rattle.format.specs.Sections.{itemOf}
 use Rattle.format.specs.WellFormed.{isSpan, sameSpan, withSome, numbered, onlyIf, word, recordOf, itemFrom}

@@ -7,9 +7,10 @@ use lib.IntN.{ℤ}
 use Rattle.format.specs.declared.module.Handler.{Handler}
 use Rattle.format.specs.declared.module.ExceptionCase.{ExceptionCase}
 use Rattle.format.specs.declared.refusal.Refusal.{Refusal}
-use Rattle.format.specs.Reading.{got, refused, many, ends, stops, endOf}
+use Rattle.format.specs.Reading.{got, refused, many}
+use Rattle.laws.specs.Loops.{ends, stops, endOf}
 use Rattle.format.specs.WellFormed.{functionCountFrom, functionFrom, importFrom, handlerFrom, caseFrom, lastFrom, casesFrom, handledFrom}
-use Rattle.laws.proofs.Groups.{Cased}
+use Rattle.laws.specs.Cased.{Cased}
 use Rattle.laws.proofs.Many.{ended, stopped}
 use Rattle.laws.proofs.Scans.{end-named, scan-renamed}
 use Rattle.rows.specs.declared.Kind.the-variants as K

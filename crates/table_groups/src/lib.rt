@@ -13,7 +13,8 @@ use table_names::function_count_from;
 use table_rows::EndFrom;
 use table_rows::check_rows;
 ghost use mathlib.Core.Path.{_≡_};
-ghost use Rattle.format.specs.Reading.{many, endOf};
+ghost use Rattle.format.specs.Reading.{many};
+ghost use Rattle.laws.specs.Loops.{endOf};
 ghost use Rattle.table_rows.specs.View.{endFrom};
 ghost use Rattle.table_groups.specs.Groups.{groupFrom};
 

@@ -13,7 +13,8 @@ use lib.Dec.{leb}
 use lib.IntN.{ℤ}
 use lib.ListN.{length, getElem?}
 use Rattle.format.specs.declared.refusal.Refusal.the-variants.{NotWellFormed}
-use Rattle.format.specs.Reading.{Reads, got, refused, many, leading, Whole}
+use Rattle.format.specs.Reading.{Reads, got, refused, many}
+use Rattle.laws.specs.Loops.{leading, Whole}
 use Rattle.format.specs.Records.{wordLimit}
 use Rattle.format.specs.WellFormed.{orBad, onlyIf, recordOf}
 use Rattle.laws.proofs.Froms.{from-there, from-outside, from-bad, Inside, from-got, only-if, only-not, only-some}

@@ -5,9 +5,10 @@ use mathlib.Core.Path.{_≡_}
 use mathlib.Core.List.{List}
 use lib.IntN.{ℤ}
 use lib.ListN.{length}
-use Rattle.format.specs.Reading.{got, Reads, give, Whole}
+use Rattle.format.specs.Reading.{got, Reads, give}
+use Rattle.laws.specs.Loops.{Whole, renamed}
 use Rattle.format.specs.WellFormed.{instructionFrom, typeFrom, itemFrom, exportFrom, functionFrom, caseFrom}
-use Rattle.laws.proofs.Scans.{renamed, renamed-got}
+use Rattle.laws.proofs.Scans.{renamed-got}
 use Rattle.laws.proofs.Whole.{whole-part}
 use Rattle.rows.specs.declared.Kind.{Kind}
 use Rattle.rows.specs.declared.Kind.the-variants as K

@@ -7,7 +7,8 @@ use mathlib.Core.Option.{some}
 use native.Mathlib.Omega.{arith}
 use lib.IntN.{ℤ}
 use Rattle.laws.proofs.Types.{Module, Refusal}
-use Rattle.format.specs.Reading.{Reads, Step, got, refused, reached}
+use Rattle.format.specs.Reading.{Reads, Step, got, refused}
+use Rattle.laws.specs.Loops.{reached}
 use Rattle.format.specs.Records.{Records}
 use Rattle.format.specs.WellFormed.{instructionFrom, typeFrom, itemFrom, exportFrom, importFrom, handledFrom}
 use Rattle.laws.proofs.Scans.{reached-many}

@@ -12,12 +12,13 @@ use Rattle.bits.specs.Bits.{sameZ}
 use Rattle.format.specs.declared.module.Module.{Module}
 use Rattle.format.specs.declared.refusal.Refusal.{Refusal}
 use Rattle.format.specs.declared.refusal.Refusal.the-variants.{TooLarge, NotWellFormed}
-use Rattle.format.specs.Reading.{got, refused, Reads, andThen, many, endOf, reached, Whole}
+use Rattle.format.specs.Reading.{got, refused, Reads, andThen, many}
+use Rattle.laws.specs.Loops.{endOf, reached, Whole, renamed}
 use Rattle.format.specs.Records.{Records, sizeLimit}
 use Rattle.format.specs.Sections.{plainMagic, signedMagic}
 use Rattle.format.specs.WellFormed.{orBad, withSome, countOf, instructionFrom, typeFrom, itemFrom, exportFrom, importFrom, handledFrom, recordsFrom, recordsOf}
 use Rattle.laws.proofs.Many.{scanned, stopped}
-use Rattle.laws.proofs.Scans.{renamed, many-renamed, scan-renamed, reached-renamed, reached-many}
+use Rattle.laws.proofs.Scans.{many-renamed, scan-renamed, reached-renamed, reached-many}
 use Rattle.laws.proofs.Told.{told}
 use Rattle.table_rows.specs.declared.EndFrom.{EndFrom}
 use Rattle.table_rows.specs.declared.EndFrom.the-variants as EndFrom-is

@@ -8,7 +8,8 @@ use lib.IntN.{ℤ}
 use lib.ListN.{length}
 use Rattle.format.specs.declared.module.Module.{Module}
 use Rattle.format.specs.declared.refusal.Refusal.the-variants.{NotWellFormed}
-use Rattle.format.specs.Reading.{Reads, got, refused, _>>=_, give, many, leading}
+use Rattle.format.specs.Reading.{Reads, got, refused, _>>=_, give, many}
+use Rattle.laws.specs.Loops.{leading}
 use Rattle.format.specs.Records.{Records, sizeLimit}
 use Rattle.format.specs.WellFormed.{withSome, numbered, isName, magicRight, instructionFrom, typeFrom, itemFrom, exportFrom, importFrom, handledFrom, recordsOf}
 use Rattle.tables.specs.declared.Counts.{Counts}

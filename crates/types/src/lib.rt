@@ -11,7 +11,7 @@ use spans::count_pointers;
 ghost use mathlib.Core.Path.{_≡_};
 ghost use Prim.Native.Nat.{_≤_};
 ghost use lib.ListN.{length};
-ghost use Rattle.format.specs.Reading.{endOf};
+ghost use Rattle.laws.specs.Loops.{endOf};
 ghost use Rattle.format.specs.Records.{sizeLimit};
 ghost use Rattle.format.specs.Sections.{typeAt};
 ghost use Rattle.reader.specs.View.{endRead};

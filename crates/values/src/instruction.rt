@@ -6,7 +6,8 @@ use format::instruction::MaybeMiddleMode;
 use format::instruction::MiddleMode;
 ghost use mathlib.Core.Path.{_≡_};
 ghost use Prim.Native.Nat.{_+_, _*_, _<_};
-ghost use Rattle.format.specs.Records.{modeOf, middleOf, modeNumber, middleNumber, maybeMode, maybeMiddle, addressingOf, addressingByte};
+ghost use Rattle.format.specs.Records.{modeOf, middleOf, modeNumber, middleNumber, addressingOf, addressingByte};
+ghost use Rattle.values.specs.View.{maybeMode, maybeMiddle};
 
 pub fn address_mode(n: u8) -> MaybeAddressMode
     ensures { λ r. ⌜ maybeMode r ≡ modeOf n ⌝ }

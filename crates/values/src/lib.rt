@@ -2,3 +2,4 @@
 pub mod instruction;
 pub mod module;
 pub mod opcode;
+pub mod ranges;

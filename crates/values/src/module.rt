@@ -5,7 +5,8 @@ use format::module::Flag;
 use format::module::MaybeDataKind;
 use format::module::Shape;
 ghost use mathlib.Core.Path.{_≡_};
-ghost use Rattle.format.specs.Records.{has, flagValue, kindOf, kindNumber, maybeKind, shapeOf};
+ghost use Rattle.format.specs.Records.{has, flagValue, kindOf, kindNumber, shapeOf};
+ghost use Rattle.values.specs.View.{maybeKind};
 
 // Whether a flag is set in the 32-bit two's complement of the header's number.
 pub fn contains(flags: i32, flag: Flag) -> bool

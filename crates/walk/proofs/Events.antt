@@ -7,7 +7,8 @@ use lib.IntN.{ℤ}
 use lib.ListN.{length, getElem?}
 use Rattle.laws.proofs.Types.{Module, State}
 use Rattle.format.specs.declared.walk.WalkAnswer.the-variants.{Walked}
-use Rattle.format.specs.Reading.{many, leading, Whole}
+use Rattle.format.specs.Reading.{many}
+use Rattle.laws.specs.Loops.{leading, Whole}
 use Rattle.format.specs.WellFormed.{instructionFrom, typeFrom, exportFrom, handledFrom}
 use Rattle.format.specs.Walk.{Event, entry, export, next, raise, entered, exportOr, advanced, firstHandler, fromThere, moved, walkOf}
 use Rattle.laws.proofs.Many.{many-length}

@@ -14,7 +14,8 @@ use table_names::export_there;
 use tables::Places;
 ghost use mathlib.Core.Path.{_≡_};
 ghost use lib.ListN.{getElem?};
-ghost use Rattle.format.specs.Reading.{many, leading, Whole};
+ghost use Rattle.format.specs.Reading.{many};
+ghost use Rattle.laws.specs.Loops.{leading, Whole};
 ghost use Rattle.format.specs.WellFormed.{exportFrom, handledFrom};
 ghost use Rattle.format.specs.Walk as Spec;
 

@@ -1,5 +1,5 @@
 // The walk: entry, export k, next and raise, over lent tables and a lent state. Each refuses by 1 and 22 first, and a refusal hands the state back.
-pub mod known;
+mod known;
 
 use crate::known::export_in;
 use crate::known::raise_in;

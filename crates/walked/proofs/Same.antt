@@ -17,7 +17,8 @@ use Rattle.format.specs.Load.{loadOf}
 use Rattle.format.specs.WellFormed.{recordsOf}
 use Rattle.format.specs.Content.{ExportShown, CaseShown, HandlerShown, Content, numbersOf, exportShown, caseShown, handlerShown, contentOf}
 use Rattle.format.specs.Writing.{writeOf}
-use Rattle.format.specs.Walk.{Event, entry, export, next, raise, entered, exported, covers, caught, firstCase, firstHandler, fromThere, exportOr, moved, walkOf, answers, after}
+use Rattle.format.specs.Walk.{Event, entry, export, next, raise, entered, exported, covers, caught, firstCase, firstHandler, fromThere, exportOr, moved, walkOf}
+use Rattle.walked.specs.Sequences.{answers, after}
 use Rattle.laws.proofs.Loads.{Accepted, accepted}
 use Rattle.laws.proofs.OperandBack.{Bytes}
 use Rattle.loaded.proofs.Leaves.{loaded-records}

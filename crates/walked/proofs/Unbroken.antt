@@ -24,7 +24,8 @@ use Rattle.format.specs.Sections.{nowhere}
 use Rattle.format.specs.Checks.{unless, firstOf, below, minusOne, caseFault, headerFault, exportFault, rangeFault, ownFault, handlerFault, faultIn}
 use Rattle.format.specs.Load.{loadOf}
 use Rattle.format.specs.WellFormed.{recordsOf}
-use Rattle.format.specs.Walk.{Event, entry, export, next, raise, frameOf, handlerFrame, goTo, entered, exported, advanced, covers, takes, caught, firstCase, firstHandler, fromThere, exportOr, moved, walkOf, stateOf, answers, after}
+use Rattle.format.specs.Walk.{Event, entry, export, next, raise, frameOf, handlerFrame, goTo, entered, exported, advanced, covers, takes, caught, firstCase, firstHandler, fromThere, exportOr, moved, walkOf}
+use Rattle.walked.specs.Sequences.{stateOf, answers, after}
 use Rattle.laws.proofs.Loads.{accepted}
 use Rattle.laws.proofs.Lists.{all-told, all-both}
 use Rattle.laws.proofs.Many.{All}

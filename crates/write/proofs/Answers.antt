@@ -16,7 +16,8 @@ use Rattle.format.specs.declared.module.Module.{Module}
 use Rattle.format.specs.declared.module.WriteAnswer.the-variants.{Written, Refused}
 use Rattle.format.specs.declared.refusal.Refusal.{Refusal}
 use Rattle.format.specs.declared.refusal.Refusal.the-variants.{TooLarge, NoFlag, ShortOutput}
-use Rattle.format.specs.Reading.{got, refused, leading}
+use Rattle.format.specs.Reading.{got, refused}
+use Rattle.laws.specs.Loops.{leading}
 use Rattle.format.specs.Records.{Records, sizeLimit}
 use Rattle.format.specs.Put.{put}
 use Rattle.format.specs.Words.{flatten}

@@ -4,7 +4,8 @@ use Prim.Native.Nat.{ℕ, _+_, _-_, _≤_, _<_}
 use mathlib.Core.Path.{_≡_, refl, sym, ap, _∙_, subst}
 use mathlib.Core.List.{List, [], _∷_, _++_, append-nil, append-assoc}
 use Rattle.format.specs.declared.instruction.Instruction.{Instruction}
-use Rattle.format.specs.Reading.{got, Reads, many, leading, reached, Whole}
+use Rattle.format.specs.Reading.{got, Reads, many}
+use Rattle.laws.specs.Loops.{leading, reached, Whole}
 use Rattle.format.specs.WellFormed.{instructionFrom}
 use Rattle.format.specs.Words.{flatten}
 use Rattle.format.specs.Writing.{Part, Line, instructionLine, partBytes}

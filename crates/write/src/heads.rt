@@ -7,7 +7,7 @@ ghost use mathlib.Core.List.{[], _∷_, map};
 ghost use Rattle.format.specs.Content.{numbersOf};
 ghost use Rattle.format.specs.Writing.{operand, headerLine};
 ghost use Rattle.line_bytes.specs.Laid.{Ready, Laid};
-ghost use Rattle.laws.proofs.Groups.{Cased};
+ghost use Rattle.laws.specs.Cased.{Cased};
 ghost use Rattle.measure.specs.Heads.{headLine};
 
 pub fn put_operands(out: &mut [u8], at: usize, values: &[i32]) -> usize

@@ -1,8 +1,8 @@
 // writer.rs: a module whose tables are lent, written as a file.
-pub mod groups;
-pub mod heads;
-pub mod runs;
-pub mod whole;
+mod groups;
+mod heads;
+mod runs;
+mod whole;
 
 use crate::whole::write_module;
 use format::module::FILE_LIMIT;

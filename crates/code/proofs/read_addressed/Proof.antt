@@ -1,6 +1,6 @@
 use mathlib.Core.Path.{sym, _∙_}
 use native.Mathlib.Omega.{arith}
-use Rattle.format.specs.Records.{maybeMode}
+use Rattle.values.specs.View.{maybeMode}
 use Rattle.format.specs.Sections.{addressedAt}
 use Rattle.laws.proofs.Pieces.{addressed-one, addressed-none, addressed-two}
 use Rattle.laws.proofs.Told.{told}

@@ -1,6 +1,6 @@
 use mathlib.Core.Path.{sym, _∙_}
 use native.Mathlib.Omega.{arith}
-use Rattle.format.specs.Records.{maybeMiddle}
+use Rattle.values.specs.View.{maybeMiddle}
 use Rattle.format.specs.Sections.{middleAt}
 use Rattle.laws.proofs.Pieces.{middle-none, middle-one}
 use Rattle.laws.proofs.Told.{told}

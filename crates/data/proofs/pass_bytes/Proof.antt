@@ -1,4 +1,4 @@
-use Rattle.format.specs.Reading.{endOf}
+use Rattle.laws.specs.Loops.{endOf}
 use Rattle.laws.proofs.Told.{told}
 use Rattle.reader.specs.View.{spanRead}
 use borrow.Author.Needs.{needs}

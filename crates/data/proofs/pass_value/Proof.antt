@@ -1,7 +1,7 @@
 use mathlib.Core.Path.{_≡_, sym, _∙_}
 use native.Mathlib.Omega.{arith}
 use Rattle.format.specs.declared.module.Shape.the-variants.{Words}
-use Rattle.format.specs.Reading.{endOf}
+use Rattle.laws.specs.Loops.{endOf}
 use Rattle.format.specs.Records.{shapeOf}
 use Rattle.laws.proofs.Values.{length-most}
 use borrow.Author.Needs.{needs}

@@ -1,6 +1,6 @@
 use mathlib.Core.Path.{sym, ap}
 use native.Mathlib.Omega.{arith}
-use Rattle.format.specs.Reading.{endOf}
+use Rattle.laws.specs.Loops.{endOf}
 use Rattle.laws.proofs.Passed.{words-whole, words-cut}
 use borrow.Author.Needs.{needs}
 use Rattle.data.proofs.pass_words.Statement.{statement}

@@ -3,7 +3,7 @@ use native.Mathlib.Omega.{arith}
 use denote.Ref.{now}
 use Rattle.bits.proofs.Signs.{kept}
 use Rattle.format.specs.Reading.{got}
-use Rattle.format.specs.Records.{maybeKind}
+use Rattle.values.specs.View.{maybeKind}
 use Rattle.format.specs.Sections.{elementsAt, offsetAt, codedAt}
 use Rattle.laws.proofs.Moves.{offset-moves}
 use Rattle.laws.proofs.Told.{told}

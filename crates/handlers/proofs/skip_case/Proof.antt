@@ -1,6 +1,7 @@
 use mathlib.Core.Path.{_≡_}
 use denote.Ref.{now}
-use Rattle.format.specs.Reading.{got, endOf}
+use Rattle.format.specs.Reading.{got}
+use Rattle.laws.specs.Loops.{endOf}
 use Rattle.format.specs.Sections.{nameIn, caseAt}
 use Rattle.laws.proofs.Told.{told}
 use Rattle.reader.specs.View.{numberRead}

@@ -7,7 +7,7 @@ use denote.Ref.{now}
 use lib.IntN.{ℤ, pos}
 use mir.Syntax.{w32}
 use mir.Val.{toZ, ofZ}
-use Rattle.format.specs.Reading.{leading}
+use Rattle.laws.specs.Loops.{leading}
 use Rattle.format.specs.WellFormed.{handledFrom}
 use Rattle.bits.proofs.Signs.{kept}
 use Rattle.laws.proofs.Groups.{cases-are}

@@ -1,7 +1,8 @@
 use mathlib.Core.Path.{_≡_, ap, _∙_}
 use denote.Ref.{now}
 use Rattle.format.specs.declared.instruction.MaybeAddressMode.{MaybeAddressMode}
-use Rattle.format.specs.Records.{modeOf, maybeMode}
+use Rattle.format.specs.Records.{modeOf}
+use Rattle.values.specs.View.{maybeMode}
 use Rattle.format.specs.WellFormed.{numbered, word}
 use Rattle.laws.proofs.Told.{told}
 use Rattle.table_pieces.proofs.Facts.{byte-kept}

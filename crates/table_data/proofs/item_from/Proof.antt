@@ -4,7 +4,8 @@ use native.Mathlib.Omega.{arith}
 use denote.Ref.{now}
 use lib.ListN.{length}
 use Rattle.format.specs.declared.module.MaybeDataKind.{MaybeDataKind}
-use Rattle.format.specs.Records.{wordLimit, kindOf, maybeKind}
+use Rattle.format.specs.Records.{wordLimit, kindOf}
+use Rattle.values.specs.View.{maybeKind}
 use Rattle.format.specs.WellFormed.{numbered, word}
 use Rattle.table_pieces.proofs.Tested.{fits, no-room, is-read, is-bad, only-passes, only-fails}
 use Rattle.table_data.specs.Tests.{itemRight}

@@ -1,7 +1,8 @@
 use mathlib.Core.Path.{_≡_}
 use denote.Ref.{now}
 use Rattle.format.specs.declared.module.MaybeDataKind.{MaybeDataKind}
-use Rattle.format.specs.Records.{kindOf, maybeKind}
+use Rattle.format.specs.Records.{kindOf}
+use Rattle.values.specs.View.{maybeKind}
 use Rattle.format.specs.WellFormed.{numbered, word}
 use Rattle.table_data.proofs.Items.{kind-read}
 use borrow.Author.Needs.{needs}

@@ -2,9 +2,11 @@ use Prim.Native.Nat.{_+_, _-_}
 use mathlib.Core.Path.{_≡_, sym}
 use native.Mathlib.Omega.{arith}
 use denote.Ref.{now}
-use Rattle.format.specs.Reading.{got, many, endOf}
+use Rattle.format.specs.Reading.{got, many}
+use Rattle.laws.specs.Loops.{endOf}
 use Rattle.format.specs.WellFormed.{handlerFrom, lastFrom}
-use Rattle.laws.proofs.Groups.{Cased, cases-are}
+use Rattle.laws.proofs.Groups.{cases-are}
+use Rattle.laws.specs.Cased.{Cased}
 use Rattle.laws.proofs.Told.{told}
 use Rattle.rows.specs.declared.Kind.the-variants.{Cases}
 use Rattle.table_pieces.proofs.Tested.{recorded, read-room}

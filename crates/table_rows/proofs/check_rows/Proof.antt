@@ -4,7 +4,8 @@ use mathlib.Core.Path.{_≡_, refl, sym, ap, _∙_}
 use native.Mathlib.Omega.{arith}
 use borrow.Author.Tests.{not-true, not-false}
 use denote.Ref.{now}
-use Rattle.format.specs.Reading.{got, many, endOf}
+use Rattle.format.specs.Reading.{got, many}
+use Rattle.laws.specs.Loops.{endOf}
 use Rattle.laws.proofs.Many.{scan-done, scan-turn, scan-stop, ended, stopped}
 use Rattle.rows.specs.Row.{Row}
 use Rattle.table_code.specs.View.{goodEnd}

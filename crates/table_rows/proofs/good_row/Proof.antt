@@ -1,6 +1,6 @@
 use mathlib.Core.Path.{sym, _∙_}
 use denote.Ref.{now}
-use Rattle.format.specs.Reading.{endOf}
+use Rattle.laws.specs.Loops.{endOf}
 use Rattle.format.specs.WellFormed.{instructionFrom}
 use Rattle.laws.proofs.Scans.{end-named}
 use Rattle.laws.proofs.Told.{told}

@@ -2,7 +2,8 @@ use Prim.Native.Nat.{_≤_}
 use mathlib.Core.Path.{_≡_, sym, _∙_}
 use native.Mathlib.Omega.{arith}
 use denote.Ref.{now}
-use Rattle.format.specs.Reading.{got, Whole}
+use Rattle.format.specs.Reading.{got}
+use Rattle.laws.specs.Loops.{Whole}
 use Rattle.format.specs.Sections.{caseAt, casesAt}
 use Rattle.bits.proofs.Signs.{kept}
 use Rattle.laws.proofs.Told.{told}

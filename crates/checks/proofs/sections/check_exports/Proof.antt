@@ -2,7 +2,8 @@ use Prim.Native.Nat.{_-_, _≤_}
 use mathlib.Core.Path.{_≡_, sym, _∙_}
 use native.Mathlib.Omega.{arith}
 use denote.Ref.{now}
-use Rattle.format.specs.Reading.{got, leading}
+use Rattle.format.specs.Reading.{got}
+use Rattle.laws.specs.Loops.{leading}
 use Rattle.format.specs.Sections.{exportAt}
 use Rattle.format.specs.Checks.{firstOf, exportFault}
 use Rattle.laws.proofs.Told.{told}

@@ -2,7 +2,8 @@ use Prim.Native.Nat.{_-_, _≤_}
 use mathlib.Core.Path.{_≡_, sym, _∙_}
 use native.Mathlib.Omega.{arith}
 use denote.Ref.{now}
-use Rattle.format.specs.Reading.{many, leading, Whole}
+use Rattle.format.specs.Reading.{many}
+use Rattle.laws.specs.Loops.{leading, Whole}
 use Rattle.format.specs.Sections.{handlerAt}
 use Rattle.format.specs.Checks.{firstOf, handlerFault}
 use Rattle.laws.proofs.Told.{told}

@@ -3,7 +3,8 @@ use mathlib.Core.Path.{_≡_, sym, ap, _∙_}
 use native.Mathlib.Omega.{arith}
 use denote.Ref.{now}
 use Rattle.format.specs.declared.types.Cursor.{Cursor}
-use Rattle.format.specs.Reading.{past, endOf, ends}
+use Rattle.format.specs.Reading.{past}
+use Rattle.laws.specs.Loops.{endOf, ends}
 use Rattle.format.specs.Operands.{byte}
 use Rattle.laws.proofs.Told.{told}
 use Rattle.code.specs.Plain.{pastOperands, operandsIn}

@@ -1,8 +1,9 @@
 use mathlib.Core.Path.{_≡_, _∙_}
 use native.Mathlib.Omega.{arith}
 use denote.Ref.{now}
-use Rattle.format.specs.Reading.{got, endOf}
-use Rattle.format.specs.Records.{maybeKind}
+use Rattle.format.specs.Reading.{got}
+use Rattle.laws.specs.Loops.{endOf}
+use Rattle.values.specs.View.{maybeKind}
 use Rattle.format.specs.Sections.{elementsAt, offsetAt, codedAt}
 use Rattle.laws.proofs.Told.{told}
 use Rattle.laws.proofs.Values.{elements-small}

@@ -1,7 +1,8 @@
 use native.Mathlib.Omega.{arith}
 use denote.Ref.{now}
 use borrow.Author.Needs.{needs}
-use Rattle.format.specs.Reading.{many, Whole}
+use Rattle.format.specs.Reading.{many}
+use Rattle.laws.specs.Loops.{Whole}
 use Rattle.laws.proofs.Fills.{Filling, filling, done}
 use Rattle.rows.specs.Groups.{groupAt, groupWords}
 use Rattle.fill.proofs.Facts.{one-ready, one-more}

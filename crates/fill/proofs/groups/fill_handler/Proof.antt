@@ -6,7 +6,8 @@ use lib.ListN.{length-append}
 use Rattle.format.specs.Reading.{got}
 use Rattle.format.specs.Words.{handlerWords}
 use Rattle.format.specs.Sections.{headAt}
-use Rattle.laws.proofs.Groups.{Cased, head-cases, cases-are}
+use Rattle.laws.proofs.Groups.{head-cases, cases-are}
+use Rattle.laws.specs.Cased.{Cased}
 use Rattle.laws.proofs.Told.{told}
 use Rattle.laws.proofs.Whole.{not-whole}
 use Rattle.handlers.specs.View.{headRead}

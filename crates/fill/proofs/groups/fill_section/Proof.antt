@@ -3,7 +3,7 @@ use mathlib.Core.Bool.{true}
 use native.Mathlib.Omega.{arith}
 use denote.Ref.{now}
 use borrow.Author.Tests.{not-true, not-false}
-use Rattle.format.specs.Reading.{leading}
+use Rattle.laws.specs.Loops.{leading}
 use Rattle.format.specs.Sections.{countIn}
 use Rattle.bits.proofs.Signs.{kept}
 use Rattle.laws.proofs.Parsed.{flag-count}

@@ -5,7 +5,7 @@ use Rattle.format.specs.declared.refusal.Refusal.the-variants.{TooLarge}
 use Rattle.format.specs.Reading.{got}
 use Rattle.format.specs.Sections.{itemAt}
 use Rattle.laws.proofs.Told.{told}
-use Rattle.laws.proofs.Until.{someOf}
+use Rattle.laws.specs.Loops.{someOf}
 use Rattle.rows.specs.Row as R
 use Rattle.fill.proofs.Facts.{one-room, one-stored, one-refused, item-got, item-none, item-refused}
 use borrow.Author.Needs.{needs}

@@ -7,10 +7,12 @@ use lib.IntN.{pos, natAbs}
 use lib.Signed.{mag}
 use mir.Syntax.{w32}
 use mir.Val.{toZ, ofZ}
-use Rattle.format.specs.Reading.{got, Whole}
+use Rattle.format.specs.Reading.{got}
+use Rattle.laws.specs.Loops.{Whole}
 use Rattle.format.specs.Words.{handlerWidth}
 use Rattle.format.specs.WellFormed.{handlerFrom, lastFrom}
-use Rattle.laws.proofs.Groups.{Cased, cases-are}
+use Rattle.laws.proofs.Groups.{cases-are}
+use Rattle.laws.specs.Cased.{Cased}
 use Rattle.laws.proofs.Told.{told}
 use Rattle.laws.proofs.Whole.{whole-got}
 use Rattle.rows.specs.declared.Kind.the-variants.{Cases}

@@ -1,6 +1,6 @@
 use mathlib.Core.Path.{sym, _∙_}
 use denote.Ref.{now}
-use Rattle.format.specs.Reading.{Whole}
+use Rattle.laws.specs.Loops.{Whole}
 use Rattle.format.specs.WellFormed.{instructionFrom, typeThere, exportThere, functionThere, caseThere}
 use Rattle.rows.specs.declared.Kind.the-variants as K
 use Rattle.rows.specs.Row as R

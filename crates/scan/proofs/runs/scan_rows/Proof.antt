@@ -1,6 +1,7 @@
 use mathlib.Core.Path.{_≡_, refl, sym, _∙_}
 use native.Mathlib.Omega.{arith}
-use Rattle.format.specs.Reading.{many, endOf}
+use Rattle.format.specs.Reading.{many}
+use Rattle.laws.specs.Loops.{endOf}
 use Rattle.laws.proofs.Many.{scan-done}
 use Rattle.laws.proofs.Told.{told}
 use Rattle.reader.specs.View.{endRead}

@@ -1,5 +1,5 @@
 use mathlib.Core.Path.{sym, _∙_}
-use Rattle.format.specs.Reading.{endOf}
+use Rattle.laws.specs.Loops.{endOf}
 use Rattle.format.specs.Sections.{instructionAt, typeAt, exportAt, functionAt, caseAt}
 use Rattle.data.specs.View.{itemEnd}
 use Rattle.data.proofs.Skipped.{skipped-some, skipped-none, skipped-refused}

@@ -1,7 +1,8 @@
 use mathlib.Core.Path.{_≡_}
 use denote.Ref.{now}
 use borrow.Author.Tests.{ne-eqb}
-use Rattle.format.specs.Reading.{found, endOf}
+use Rattle.format.specs.Reading.{found}
+use Rattle.laws.specs.Loops.{endOf}
 use Rattle.format.specs.Operands.{byteAt}
 use Rattle.format.specs.Sections.{closing}
 use Rattle.laws.proofs.Told.{told}

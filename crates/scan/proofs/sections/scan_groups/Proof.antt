@@ -2,7 +2,8 @@ use Prim.Native.Nat.{_*_, _≤_}
 use mathlib.Core.Path.{_≡_}
 use native.Mathlib.Nat.{add-zero}
 use native.Mathlib.Omega.{arith}
-use Rattle.format.specs.Reading.{many, tally}
+use Rattle.format.specs.Reading.{many}
+use Rattle.laws.specs.Loops.{tally}
 use Rattle.laws.proofs.Scans.{plus, plus-zero, plus-plus, tally-done}
 use Rattle.laws.proofs.Told.{told}
 use Rattle.pieces.specs.View.{countRead}

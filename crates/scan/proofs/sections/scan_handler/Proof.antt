@@ -2,9 +2,11 @@ use Prim.Native.Nat.{_-_}
 use mathlib.Core.Path.{_≡_, sym}
 use native.Mathlib.Omega.{arith}
 use denote.Ref.{now}
-use Rattle.format.specs.Reading.{got, many, endOf}
+use Rattle.format.specs.Reading.{got, many}
+use Rattle.laws.specs.Loops.{endOf}
 use Rattle.format.specs.Sections.{headAt, handlerAt}
-use Rattle.laws.proofs.Groups.{Cased, head-cases, cases-are}
+use Rattle.laws.proofs.Groups.{head-cases, cases-are}
+use Rattle.laws.specs.Cased.{Cased}
 use Rattle.laws.proofs.Told.{told}
 use Rattle.reader.specs.declared.EndRead.{EndRead}
 use Rattle.reader.specs.View.{numberRead, endRead}

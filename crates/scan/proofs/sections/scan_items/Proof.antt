@@ -6,7 +6,8 @@ use native.Mathlib.Omega.{arith}
 use lib.ListN.{length}
 use denote.Ref.{now}
 use Rattle.format.specs.declared.module.DataItem.{DataItem}
-use Rattle.format.specs.Reading.{got, tally}
+use Rattle.format.specs.Reading.{got}
+use Rattle.laws.specs.Loops.{tally}
 use Rattle.format.specs.Sections.{itemAt, itemsAt}
 use Rattle.laws.proofs.Items.{items-turn, items-end, items-stop}
 use Rattle.laws.proofs.Moves.{item-far}

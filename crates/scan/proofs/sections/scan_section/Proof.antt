@@ -4,7 +4,8 @@ use native.Mathlib.Omega.{arith}
 use denote.Ref.{now}
 use borrow.Author.Tests.{not-true, not-false}
 use Rattle.format.specs.declared.types.Cursor.{Cursor}
-use Rattle.format.specs.Reading.{Step, andThen, give, many, endOf, tally}
+use Rattle.format.specs.Reading.{Step, andThen, give, many}
+use Rattle.laws.specs.Loops.{endOf, tally}
 use Rattle.format.specs.Sections.{countIn, closing}
 use Rattle.bits.proofs.Signs.{kept}
 use Rattle.laws.proofs.Many.{ended, stopped}

@@ -5,7 +5,8 @@ use mathlib.Core.Option.{none}
 use native.Mathlib.Omega.{arith}
 use lib.ListN.{getElem?}
 use Rattle.format.proofs.Ranges.{none-past}
-use Rattle.format.specs.Reading.{Reads, leading}
+use Rattle.format.specs.Reading.{Reads}
+use Rattle.laws.specs.Loops.{leading}
 use Rattle.format.specs.WellFormed.{exportFrom}
 use Rattle.laws.proofs.Types.{ExportEntry}
 use Rattle.laws.proofs.Many.{many-length}

@@ -11,7 +11,8 @@ use Rattle.format.specs.Reading.{got}
 use Rattle.format.specs.Words.{handlerWidth}
 use Rattle.format.specs.WellFormed.{handlerFrom, lastFrom}
 use Rattle.format.specs.Writing.{Part}
-use Rattle.laws.proofs.Groups.{Cased, cases-are}
+use Rattle.laws.proofs.Groups.{cases-are}
+use Rattle.laws.specs.Cased.{Cased}
 use Rattle.laws.proofs.Told.{told}
 use Rattle.line_bytes.specs.Laid.{Ready}
 use Rattle.line_bytes.proofs.Chain.{Writing, writing, ready, ready-last, step, finish-last}

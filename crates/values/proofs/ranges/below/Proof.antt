@@ -1,7 +1,7 @@
 use Rattle.bits.proofs.Signs.{natural-is, natural-not, passed}
 use borrow.Author.Needs.{needs}
-use Rattle.checks.proofs.records.below.Statement.{statement}
-use Rattle.checks.proofs.records.below.Tie as tie
+use Rattle.values.proofs.ranges.below.Statement.{statement}
+use Rattle.values.proofs.ranges.below.Tie as tie
 
 returns : tie.Need-returns
 returns c =

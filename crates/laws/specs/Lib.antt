@@ -1,0 +1,3 @@
+pub mod Cased
+pub mod Loops
+pub mod Passed
