@@ -17,8 +17,8 @@ use Rattle.format.specs.Put.{put}
 use Rattle.format.specs.Load.{loadOf}
 use Rattle.format.specs.Writing.{writeOf}
 use Rattle.format.specs.Walk.{Event, walkOf}
-use Rattle.numbers.specs.Numbers.{moduleIn, stateIn}
-use Rattle.laws.proofs.Truth.{and-both}
+use Rattle.abi_numbers.specs.Numbers.{moduleIn, stateIn}
+use Rattle.law_format.proofs.Truth.{and-both}
 use Rattle.abi_answers.specs.Answers.{enough, enoughToWalk, loadAnswer, moduleAfter, writeAnswer, walkAnswer, stateAfter}
 use Rattle.abi.specs.Boundary.{done, tooShort, disLoad, disWrite, disWalk}
 

@@ -9,7 +9,7 @@ use Rattle.format.specs.Put.{put}
 use Rattle.format.specs.Load.{loadOf}
 use Rattle.format.specs.Writing.{writeOf}
 use Rattle.format.specs.Walk.{Event, walkOf}
-use Rattle.numbers.specs.Numbers.{moduleIn, stateIn}
+use Rattle.abi_numbers.specs.Numbers.{moduleIn, stateIn}
 use Rattle.abi_answers.specs.Answers.{enough, enoughToWalk, loadAnswer, moduleAfter, writeAnswer, walkAnswer, stateAfter}
 
 -- ---- what is returned: 0, or -1 where a slice is too short for its numbers, and then nothing is written

@@ -11,7 +11,7 @@ use Rattle.format.specs.declared.module.WriteAnswer.the-variants as W
 use Rattle.format.specs.declared.walk.WalkAnswer.{WalkAnswer}
 use Rattle.format.specs.declared.walk.WalkAnswer.the-variants as M
 use Rattle.format.specs.Put.{put}
-use Rattle.numbers.specs.Numbers.{moduleWidth, stateWidth, answerWidth, doneNumbers, refusalNumbers, moduleNumbers, stateNumbers}
+use Rattle.abi_numbers.specs.Numbers.{moduleWidth, stateWidth, answerWidth, doneNumbers, refusalNumbers, moduleNumbers, stateNumbers}
 
 -- so many numbers are enough for a module, and for an answer
 unfoldable pub enough : ℕ → ℕ → Bool

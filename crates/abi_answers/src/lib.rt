@@ -1,19 +1,19 @@
 // What loading, writing and the walk answer, as numbers at the front of lent slices; and whether slices are long enough for them.
+use abi_numbers::ANSWER_WIDTH;
+use abi_numbers::MODULE_WIDTH;
+use abi_numbers::STATE_WIDTH;
+use abi_numbers::put_done;
+use abi_numbers::put_module;
+use abi_numbers::put_refusal;
+use abi_numbers::put_state;
 use format::module::LoadAnswer;
 use format::module::WriteAnswer;
 use format::walk::WalkAnswer;
-use numbers::ANSWER_WIDTH;
-use numbers::MODULE_WIDTH;
-use numbers::STATE_WIDTH;
-use numbers::put_done;
-use numbers::put_module;
-use numbers::put_refusal;
-use numbers::put_state;
 ghost use mathlib.Core.Path.{_≡_};
 ghost use Prim.Native.Nat.{_≤_};
 ghost use lib.ListN.{length};
 ghost use Rattle.format.specs.Put.{put};
-ghost use Rattle.numbers.specs.Numbers.{moduleWidth, stateWidth, answerWidth};
+ghost use Rattle.abi_numbers.specs.Numbers.{moduleWidth, stateWidth, answerWidth};
 ghost use Rattle.abi_answers.specs.Answers as Spec;
 
 // Whether slices of so many numbers can hold a module and an answer.

@@ -6,12 +6,12 @@ use Prim.Native.Nat.{ℕ}
 use mathlib.Core.Path.{refl}
 use mathlib.Core.List.{List, [], _∷_}
 use lib.IntN.{ℤ}
-use Rattle.laws.proofs.Types.{State}
+use Rattle.law_format.proofs.Types.{State}
 use Rattle.format.specs.Load.{loadOf}
 use Rattle.format.specs.Writing.{writeOf}
 use Rattle.format.specs.Walk.{Event, entry, export, next, raise}
-use Rattle.walked.specs.Sequences.{stateOf, answers, after}
-use Rattle.laws.proofs.OperandBack.{Bytes}
+use Rattle.law_walked.specs.Sequences.{stateOf, answers, after}
+use Rattle.law_format.proofs.OperandBack.{Bytes}
 use Rattle.demands.proofs.Calls.{Call, Tables, Load, Write, Happens, Run, walk}
 
 -- the call with these arguments, this answer and this memory at exit

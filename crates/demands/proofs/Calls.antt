@@ -6,18 +6,18 @@ use Prim.Native.Nat.{ℕ}
 use mathlib.Core.Path.{_≡_, refl, ap, subst}
 use mathlib.Core.List.{List, [], _∷_}
 use lib.IntN.{ℤ}
-use Rattle.laws.proofs.Types.{Module, LoadAnswer, WriteAnswer, State, WalkAnswer}
-use Rattle.tables.specs.declared.Checked.{Checked}
-use Rattle.tables.specs.Laid.{CheckSays}
+use Rattle.law_format.proofs.Types.{Module, LoadAnswer, WriteAnswer, State, WalkAnswer}
+use Rattle.table_check.specs.declared.Checked.{Checked}
+use Rattle.table_check.specs.Laid.{CheckSays}
 use Rattle.format.specs.Load.{loadOf}
 use Rattle.format.specs.Writing.{writeOf}
 use Rattle.format.specs.Walk as Walk
 use Rattle.format.specs.Walk.{Event, walkOf}
-use Rattle.walked.specs.Sequences.{stateOf, answers, after}
-use Rattle.laws.proofs.OperandBack.{Bytes}
+use Rattle.law_walked.specs.Sequences.{stateOf, answers, after}
+use Rattle.law_format.proofs.OperandBack.{Bytes}
 use Rattle.load.proofs.load.Reads as load
 use Rattle.write.proofs.write.Reads as write
-use Rattle.tables.proofs.check.Reads as check
+use Rattle.table_check.proofs.check.Reads as check
 use Rattle.walk.proofs.entry.Reads as entry
 use Rattle.walk.proofs.export.Reads as export
 use Rattle.walk.proofs.next.Reads as next

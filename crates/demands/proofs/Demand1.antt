@@ -6,16 +6,16 @@ use mathlib.Core.Path.{_≡_, sym, ap, _∙_}
 use mathlib.Core.List.{List}
 use mathlib.Core.Option.{none}
 use lib.IntN.{ℤ}
-use Rattle.laws.proofs.Types.{LoadAnswer, WriteAnswer, State, WalkAnswer, Refusal, NoExport}
+use Rattle.law_format.proofs.Types.{LoadAnswer, WriteAnswer, State, WalkAnswer, Refusal, NoExport}
 use Rattle.format.specs.declared.module.LoadAnswer.the-variants as Load-is
 use Rattle.format.specs.declared.module.WriteAnswer.the-variants as Write-is
 use Rattle.format.specs.declared.walk.WalkAnswer.the-variants as Walk-is
 use Rattle.format.specs.Walk.{Event, export}
-use Rattle.tables.specs.declared.Checked.{Checked}
-use Rattle.laws.proofs.Loads.{refused-leaves}
-use Rattle.laws.proofs.Writes.{write-leaves}
-use Rattle.walked.proofs.Rules.{refusal-keeps}
-use Rattle.tables.proofs.Same.{check-same}
+use Rattle.table_check.specs.declared.Checked.{Checked}
+use Rattle.law_format.proofs.Loads.{refused-leaves}
+use Rattle.law_format.proofs.Writes.{write-leaves}
+use Rattle.law_walked.proofs.Rules.{refusal-keeps}
+use Rattle.table_check.proofs.Same.{check-same}
 use Rattle.demands.proofs.Calls.{Tables, Load, Check, Write, Happens, load-is, check-is, write-is, happens-is}
 use Rattle.demands.proofs.Open.{AllOpen, all-open}
 use Rattle.demands.proofs.Refusals.{loadWhy, checkWhy, writeWhy, walkWhy, loadRefusal, checkRefusal, writeRefusal, eventRefusal, load-first, check-first, write-first, event-first, event-absent}

@@ -8,7 +8,7 @@ use Prim.Native.Nat.{ℕ}
 use mathlib.Core.Path.{_≡_}
 use mathlib.Core.List.{List}
 use lib.IntN.{ℤ}
-use Rattle.laws.proofs.Types.{Module, LoadAnswer, WriteAnswer}
+use Rattle.law_format.proofs.Types.{Module, LoadAnswer, WriteAnswer}
 use Rattle.format.specs.Load.{loadOf}
 use Rattle.format.specs.Writing.{writeOf}
 use Rattle.demands.proofs.Calls.{Load, Write, load-is, write-is}

@@ -9,7 +9,7 @@ use mathlib.Core.List.{List, _++_}
 use native.Mathlib.Nat.{zero-add}
 use lib.IntN.{ℤ}
 use lib.ListN.{length, drop}
-use Rattle.laws.proofs.Types.{Cursor, Module, LoadAnswer, WriteAnswer, State, WalkAnswer}
+use Rattle.law_format.proofs.Types.{Cursor, Module, LoadAnswer, WriteAnswer, State, WalkAnswer}
 use Rattle.format.specs.declared.module.LoadAnswer.the-variants.{Loaded}
 use Rattle.format.specs.declared.module.WriteAnswer.the-variants.{Written}
 use Rattle.format.specs.declared.walk.State.the-variants.{Idle}
@@ -20,15 +20,15 @@ use Rattle.format.specs.Sections.{parse}
 use Rattle.format.specs.Content.{contentOf}
 use Rattle.format.specs.Writing.{encode}
 use Rattle.format.specs.Walk.{Event}
-use Rattle.walked.specs.Sequences.{answers, after}
-use Rattle.laws.proofs.Loads.{Accepted, accepted}
-use Rattle.laws.proofs.Many.{All}
-use Rattle.laws.proofs.OperandBack.{Bytes}
-use Rattle.loaded.proofs.Leaves.{loaded-written, result}
-use Rattle.reload.proofs.Again.{loaded-again}
-use Rattle.walked.proofs.Had.{Had}
-use Rattle.walked.proofs.Unbroken.{Fine, never-broken, always-fine}
-use Rattle.walked.proofs.Same.{walks-alike}
+use Rattle.law_walked.specs.Sequences.{answers, after}
+use Rattle.law_format.proofs.Loads.{Accepted, accepted}
+use Rattle.law_format.proofs.Many.{All}
+use Rattle.law_format.proofs.OperandBack.{Bytes}
+use Rattle.law_loaded.proofs.Leaves.{loaded-written, result}
+use Rattle.law_reload.proofs.Again.{loaded-again}
+use Rattle.law_walked.proofs.Had.{Had}
+use Rattle.law_walked.proofs.Unbroken.{Fine, never-broken, always-fine}
+use Rattle.law_walked.proofs.Same.{walks-alike}
 use Rattle.demands.proofs.Calls.{Tables, Load, Write, Run, walk, load-is, load-bytes, write-is, run-is}
 
 -- no run of calls from idle answers "broken" or ends there: each answer is a state that the module has, or 25 in one

@@ -7,9 +7,9 @@ use Rattle.load.proofs.load.Met.{met as load-met}
 use Rattle.write.proofs.write.Reads as write
 use Rattle.write.proofs.write.Statement.{statement as write-kept}
 use Rattle.write.proofs.write.Met.{met as write-met}
-use Rattle.tables.proofs.check.Reads as check
-use Rattle.tables.proofs.check.Statement.{statement as check-kept}
-use Rattle.tables.proofs.check.Met.{met as check-met}
+use Rattle.table_check.proofs.check.Reads as check
+use Rattle.table_check.proofs.check.Statement.{statement as check-kept}
+use Rattle.table_check.proofs.check.Met.{met as check-met}
 use Rattle.walk.proofs.entry.Reads as entry
 use Rattle.walk.proofs.entry.Statement.{statement as entry-kept}
 use Rattle.walk.proofs.entry.Met.{met as entry-met}

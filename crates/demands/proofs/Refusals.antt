@@ -10,13 +10,13 @@ use borrow.Author.Tests.{lt-ltb, le-ltb}
 use lib.Dec.{leb, ltb, leb·suc-suc}
 use lib.IntN.{ℤ}
 use lib.ListN.{length, getElem?}
-use Rattle.laws.proofs.Types.{Cursor, ExportEntry, Module, LoadAnswer, WriteAnswer, State, WalkAnswer, Refusal, FewWords, NoExport}
+use Rattle.law_format.proofs.Types.{Cursor, ExportEntry, Module, LoadAnswer, WriteAnswer, State, WalkAnswer, Refusal, FewWords, NoExport}
 use Rattle.format.specs.declared.module.LoadAnswer.the-variants as Load-is
 use Rattle.format.specs.declared.module.WriteAnswer.the-variants as Write-is
 use Rattle.format.specs.declared.walk.WalkAnswer.the-variants as Walk-is
-use Rattle.tables.specs.declared.Checked.{Checked}
-use Rattle.tables.specs.declared.Checked.the-variants as Checked-is
-use Rattle.tables.specs.Laid.{CheckSays}
+use Rattle.table_check.specs.declared.Checked.{Checked}
+use Rattle.table_check.specs.declared.Checked.the-variants as Checked-is
+use Rattle.table_check.specs.Laid.{CheckSays}
 use Rattle.format.specs.Reading.{Step, got, refused, andThen, _>>=_, check, sound, front}
 use Rattle.format.specs.Records.{Records}
 use Rattle.format.specs.Words.{wordsNeeded}
@@ -25,7 +25,7 @@ use Rattle.format.specs.Load.{accept, filled, loadOf}
 use Rattle.format.specs.WellFormed.{recordsOf}
 use Rattle.format.specs.Writing.{bytesOf, written, writeOf}
 use Rattle.format.specs.Walk.{Event, entry, export, next, raise, exportOr, moved, inTables, walkOf}
-use Rattle.walked.proofs.Rules.{moved-refused}
+use Rattle.law_walked.proofs.Rules.{moved-refused}
 use Rattle.demands.proofs.Calls.{Tables, walk}
 
 -- ---- where a definition stops

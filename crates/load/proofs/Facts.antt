@@ -17,22 +17,22 @@ use Rattle.format.specs.declared.module.LoadAnswer.the-variants.{Loaded, Refuse
 use Rattle.format.specs.Load.{loadOf}
 use Rattle.format.specs.Put.{put}
 use Rattle.format.specs.Reading.{Step, got, refused, many, front}
-use Rattle.laws.specs.Loops.{leading, Whole}
+use Rattle.law_format.specs.Loops.{leading, Whole}
 use Rattle.format.specs.Records.{Records, moduleOf, has, sizeLimit, wordLimit}
 use Rattle.format.specs.Words.{instructionWidth, typeWidth, itemWidth, exportWidth, importWords, handledWords, tableWords, wordsNeeded}
 use Rattle.format.specs.Sections.{Reading, countIn, countedBy, exportAt, handlerAt, underFlag, parse}
 use Rattle.format.specs.Checks.{_then_, firstOf, headerFault, exportFault, handlerFault, faultIn}
-use Rattle.laws.proofs.Many.{many-leading}
-use Rattle.laws.proofs.Parsed.{parse-whole, counted-got, flag-some}
-use Rattle.laws.proofs.Whole.{whole-part}
-use Rattle.laws.proofs.Loads.{load-few, load-whole}
-use Rattle.laws.proofs.Flatten.{flatten-least}
-use Rattle.laws.proofs.Needed.{needed}
-use Rattle.laws.proofs.Limit.{words-limit}
-use Rattle.survey.specs.declared.Front.{Front}
-use Rattle.survey.specs.declared.Middle.{Middle}
-use Rattle.survey.specs.declared.Back.{Back}
-use Rattle.survey.specs.Survey.{Ran}
+use Rattle.law_format.proofs.Many.{many-leading}
+use Rattle.law_format.proofs.Parsed.{parse-whole, counted-got, flag-some}
+use Rattle.law_format.proofs.Whole.{whole-part}
+use Rattle.law_format.proofs.Loads.{load-few, load-whole}
+use Rattle.law_format.proofs.Flatten.{flatten-least}
+use Rattle.law_format.proofs.Needed.{needed}
+use Rattle.law_format.proofs.Limit.{words-limit}
+use Rattle.load_survey.specs.declared.Front.{Front}
+use Rattle.load_survey.specs.declared.Middle.{Middle}
+use Rattle.load_survey.specs.declared.Back.{Back}
+use Rattle.load_survey.specs.Survey.{Ran}
 use Rattle.load.specs.Whole.{Surveyed, ofRead, besides}
 
 -- records that were counted and read

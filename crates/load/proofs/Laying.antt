@@ -10,25 +10,25 @@ use Rattle.format.specs.declared.types.Cursor.{Cursor}
 use Rattle.format.specs.declared.refusal.Refusal.the-variants.{TooLarge}
 use Rattle.format.specs.Put.{put}
 use Rattle.format.specs.Reading.{got, front}
-use Rattle.laws.specs.Loops.{leading, Whole, renamed, someOf}
+use Rattle.law_format.specs.Loops.{leading, Whole, renamed, someOf}
 use Rattle.format.specs.Words.{flatten, instructionWords, typeWords, itemWords, exportWords, importWords, handledWords, tableWords, wordsNeeded}
 use Rattle.format.specs.Sections.{Reading, instructionAt, typeAt, itemAt, exportAt, importAt, handlerAt, parse}
-use Rattle.laws.proofs.Many.{many-leading}
-use Rattle.laws.proofs.Scans.{leading-renamed, flatten-renamed}
-use Rattle.laws.proofs.Items.{items-many}
-use Rattle.laws.proofs.Groups.{flag-renamed}
-use Rattle.laws.proofs.Needed.{Laid, laid-more}
-use Rattle.laws.proofs.Put.{put-none, length-put}
+use Rattle.law_format.proofs.Many.{many-leading}
+use Rattle.law_format.proofs.Scans.{leading-renamed, flatten-renamed}
+use Rattle.law_format.proofs.Items.{items-many}
+use Rattle.law_format.proofs.Groups.{flag-renamed}
+use Rattle.law_format.proofs.Needed.{Laid, laid-more}
+use Rattle.law_format.proofs.Put.{put-none, length-put}
 use Rattle.rows.specs.Row.{Row}
 use Rattle.rows.specs.Row as R
 use Rattle.rows.specs.declared.Kind.the-variants as K
 use Rattle.rows.specs.declared.groups.Group.the-variants as G
 use Rattle.rows.specs.Rows.{rowAt, rowWords}
 use Rattle.rows.specs.Groups.{imports, handled, groupWords, flaggedAt}
-use Rattle.fill.specs.Filled.{listIn}
-use Rattle.survey.specs.declared.Front.{Front}
-use Rattle.survey.specs.declared.Middle.{Middle}
-use Rattle.survey.specs.declared.Back.{Back}
+use Rattle.load_fill.specs.Filled.{listIn}
+use Rattle.load_survey.specs.declared.Front.{Front}
+use Rattle.load_survey.specs.declared.Middle.{Middle}
+use Rattle.load_survey.specs.declared.Back.{Back}
 use Rattle.load.specs.Whole.{Surveyed, ofRead}
 use Rattle.load.proofs.Facts.{records, parsed, ran-leading}
 

@@ -6,10 +6,10 @@ use Rattle.format.specs.declared.types.Cursor.{Cursor}
 use Rattle.format.specs.declared.module.Module.{Module}
 use Rattle.format.specs.Reading.{Step, got, refused}
 use Rattle.format.specs.Records.{Records, moduleOf}
-use Rattle.survey.specs.Survey.{FrontIs, MiddleIs, BackIs}
-use Rattle.survey.specs.declared.Front.{Front}
-use Rattle.survey.specs.declared.Middle.{Middle}
-use Rattle.survey.specs.declared.Back.{Back}
+use Rattle.load_survey.specs.Survey.{FrontIs, MiddleIs, BackIs}
+use Rattle.load_survey.specs.declared.Front.{Front}
+use Rattle.load_survey.specs.declared.Middle.{Middle}
+use Rattle.load_survey.specs.declared.Back.{Back}
 
 pub record Surveyed (file : List ℕ) (f : Front) (m : Middle) (b : Back) : Type 0 where
   pub front : FrontIs file f

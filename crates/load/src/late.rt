@@ -1,15 +1,15 @@
 // 10 to 19, in their order.
-use checks::records::Fault;
-use checks::records::check_header;
-use checks::sections::check_exports;
-use checks::sections::check_handlers;
+use file_pieces::CountRead;
+use file_pieces::read_count;
 use format::module::Flag;
 use format::types::Cursor;
-use pieces::CountRead;
-use pieces::read_count;
-use survey::Back;
-use survey::Front;
-use survey::Middle;
+use load_checks::records::Fault;
+use load_checks::records::check_header;
+use load_checks::sections::check_exports;
+use load_checks::sections::check_handlers;
+use load_survey::Back;
+use load_survey::Front;
+use load_survey::Middle;
 use values::module::contains;
 ghost use mathlib.Core.Path.{_≡_};
 ghost use mathlib.Core.Option.{none};
@@ -17,10 +17,10 @@ ghost use Prim.Native.Nat.{suc, _≤_, _<_, _^_};
 ghost use lib.ListN.{length};
 ghost use Rattle.format.specs.Checks.{firstOf, handlerFault, faultIn};
 ghost use Rattle.format.specs.Reading as Spec;
-ghost use Rattle.laws.specs.Loops.{Whole};
+ghost use Rattle.law_format.specs.Loops.{Whole};
 ghost use Rattle.format.specs.Records.{sizeLimit};
 ghost use Rattle.format.specs.Sections.{handlerAt, underFlag, parse};
-ghost use Rattle.checks.specs.View.{faultOf};
+ghost use Rattle.load_checks.specs.View.{faultOf};
 ghost use Rattle.load.specs.Whole.{Surveyed, ofRead};
 
 // The handlers of section 8, where it stands.

@@ -1,15 +1,15 @@
 // The second pass: how many words there are, and the words, from the front, in file order.
-use fill::groups::fill_section;
-use fill::runs::fill_rows;
 use format::module::EXPORT_WIDTH;
 use format::module::INSTRUCTION_WIDTH;
 use format::module::ITEM_WIDTH;
 use format::module::TYPE_WIDTH;
+use load_fill::groups::fill_section;
+use load_fill::runs::fill_rows;
+use load_survey::Back;
+use load_survey::Front;
+use load_survey::Middle;
 use rows::Kind;
 use rows::groups::Group;
-use survey::Back;
-use survey::Front;
-use survey::Middle;
 ghost use mathlib.Core.Path.{_≡_};
 ghost use mathlib.Core.List.{[]};
 ghost use Prim.Native.Nat.{_≤_};

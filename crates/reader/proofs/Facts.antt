@@ -12,7 +12,7 @@ use Rattle.bits.specs.Bits.{signed}
 use Rattle.format.specs.declared.types.Cursor.{Cursor}
 use Rattle.format.specs.Reading.{Read, found, short}
 use Rattle.bits.proofs.Signs.{kept}
-use Rattle.laws.proofs.Told.{told}
+use Rattle.law_format.proofs.Told.{told}
 use Rattle.reader.specs.declared.NumberRead.{NumberRead}
 use Rattle.reader.specs.declared.NumberRead.the-variants.{Got, Short}
 use Rattle.reader.specs.View.{numberRead}

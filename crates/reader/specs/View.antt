@@ -4,7 +4,7 @@ use lib.IntN.{ℤ}
 use Rattle.format.specs.declared.types.Cursor.{Cursor}
 use Rattle.format.specs.declared.types.Span.{Span}
 use Rattle.format.specs.Reading.{Read, found, short}
-use Rattle.laws.specs.Loops.{End, ends, stops}
+use Rattle.law_format.specs.Loops.{End, ends, stops}
 use Rattle.format.specs.Operands.{spanOf}
 use Rattle.reader.specs.declared.ByteRead.{ByteRead}
 use Rattle.reader.specs.declared.ByteRead.the-variants as B

@@ -11,7 +11,7 @@ use lib.Dec.{leb, ltb, eqb}
 use lib.ListN.{length, getD, take, drop, replicate, length-replicate, length-append}
 use lib.Seq.{take-at, take-suc, take-append-le, drop-append-add}
 use Rattle.format.specs.Put.{put}
-use Rattle.laws.proofs.Truth.{and-both}
+use Rattle.law_format.proofs.Truth.{and-both}
 use Rattle.reasons.specs.Texts.{letters, told, filled, rows, before, trimmed}
 
 -- ---- spaces at the end

@@ -1,6 +1,6 @@
 // Plain words for the four numbers of a refusal: what its number says, what its place and its detail are, and the name of
 // a section. The texts stand in rows of one width, filled up with spaces.
-use line_pieces::put_bytes;
+use write_pieces::put_bytes;
 ghost use mathlib.Core.Path.{_≡_};
 ghost use mathlib.Core.Bool.{cond};
 ghost use Prim.Native.Nat.{_+_, _*_, _≤_};

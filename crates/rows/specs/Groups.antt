@@ -10,7 +10,7 @@ use Rattle.format.specs.Reading.{Reads}
 use Rattle.format.specs.Records.{Handled, has}
 use Rattle.format.specs.Words.{importWords, handledWords}
 use Rattle.format.specs.Sections.{importAt, handlerAt, underFlag}
-use Rattle.laws.specs.Loops.{renamed}
+use Rattle.law_format.specs.Loops.{renamed}
 use Rattle.rows.specs.declared.groups.Group.{Group}
 use Rattle.rows.specs.declared.groups.Group.the-variants as G
 

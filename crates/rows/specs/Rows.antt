@@ -7,7 +7,7 @@ use Rattle.format.specs.declared.refusal.Refusal.the-variants.{TooLarge}
 use Rattle.format.specs.Reading.{Reads}
 use Rattle.format.specs.Words.{instructionWords, typeWords, itemWords, exportWords, functionWords, caseWords}
 use Rattle.format.specs.Sections.{instructionAt, typeAt, itemAt, exportAt, functionAt, caseAt}
-use Rattle.laws.specs.Loops.{renamed, someOf}
+use Rattle.law_format.specs.Loops.{renamed, someOf}
 use Rattle.rows.specs.declared.Kind.{Kind}
 use Rattle.rows.specs.declared.Kind.the-variants as K
 use Rattle.rows.specs.Row.{Row}

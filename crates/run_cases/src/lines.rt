@@ -20,7 +20,7 @@ use crate::text::least;
 use crate::text::number_in;
 use crate::text::token;
 use crate::text::words_into;
-use numbers::MODULE_WIDTH;
+use abi_numbers::MODULE_WIDTH;
 
 fn lends(lent: Lent) -> Ran {
     Ran {

@@ -17,11 +17,11 @@ use crate::print::print_count;
 use crate::print::print_number;
 use crate::text::BYTES;
 use crate::text::place_of;
+use abi_numbers::MODULE_WIDTH;
+use abi_numbers::STATE_WIDTH;
 use bits::magnitude;
 use files::Input;
 use files::read_file;
-use numbers::MODULE_WIDTH;
-use numbers::STATE_WIDTH;
 ghost use mathlib.Core.Path.{_≡_};
 ghost use lib.ListN.{length};
 

@@ -23,8 +23,8 @@ use abi::dis_load;
 use abi::dis_next;
 use abi::dis_raise;
 use abi::dis_write;
-use numbers::MODULE_WIDTH;
-use numbers::STATE_WIDTH;
+use abi_numbers::MODULE_WIDTH;
+use abi_numbers::STATE_WIDTH;
 
 // What a line comes to.
 pub enum Verdict {

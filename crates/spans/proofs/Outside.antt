@@ -7,7 +7,7 @@ use mathlib.Core.List.{List, []}
 use denote.Ref.{RefT, ptr, now}
 use Rattle.format.specs.declared.types.Span.{Span}
 use Rattle.format.specs.Operands.{inside}
-use Rattle.laws.proofs.Names.{shown-outside}
+use Rattle.law_format.proofs.Names.{shown-outside}
 use Rattle.spans.specs.Part.{PartOf}
 
 -- the empty part at the file's front is what a span says that leaves the file

@@ -10,7 +10,7 @@ use lib.Dec.{leb}
 use lib.IntN.{ℤ}
 use Rattle.format.specs.declared.instruction.AddressMode.{AddressMode}
 use Rattle.format.specs.declared.instruction.MiddleMode.{MiddleMode}
-use Rattle.laws.specs.Loops.{endOf}
+use Rattle.law_format.specs.Loops.{endOf}
 use Rattle.format.specs.Records.{modes, modeOf, byMode, middleModes, middleOf, byMiddle}
 use Rattle.format.specs.Words.{instructionWidth}
 use Rattle.format.specs.WellFormed.{withSome, onlyIf, orBad, isZero, numbered, word, operandFrom, middleFrom}

@@ -11,7 +11,7 @@ use Rattle.format.specs.Records.{modes, modeOf, middleModes, middleOf}
 use Rattle.format.specs.Words.{instructionWidth}
 use Rattle.format.specs.WellFormed.{numbered, onlyIf, recordOf, instructionFrom}
 use Rattle.format.proofs.Ranges.{none-past}
-use Rattle.laws.proofs.Froms.{only-not}
+use Rattle.law_format.proofs.Froms.{only-not}
 use Rattle.table_pieces.specs.Bytes.{byteOf}
 use Rattle.table_pieces.proofs.Facts.{byte-says}
 use Rattle.table_pieces.proofs.Tested.{Recorded}

@@ -7,7 +7,7 @@ use Rattle.format.specs.declared.instruction.MiddleOperand.{MiddleOperand}
 use Rattle.format.specs.declared.instruction.Instruction.{Instruction}
 use Rattle.format.specs.declared.refusal.Refusal.the-variants.{NotWellFormed}
 use Rattle.format.specs.Reading.{Step}
-use Rattle.laws.specs.Loops.{End, ends, stops}
+use Rattle.law_format.specs.Loops.{End, ends, stops}
 use Rattle.format.specs.Words.{instructionWidth}
 use Rattle.format.specs.WellFormed.{orBad}
 use Rattle.table_code.specs.declared.OperandFrom.{OperandFrom}

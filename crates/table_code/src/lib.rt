@@ -17,7 +17,7 @@ ghost use mathlib.Core.Path.{_≡_};
 ghost use mathlib.Core.Bool.{_&&_};
 ghost use Prim.Native.Nat.{_+_, _≤_};
 ghost use lib.ListN.{length};
-ghost use Rattle.laws.specs.Loops.{endOf};
+ghost use Rattle.law_format.specs.Loops.{endOf};
 ghost use Rattle.format.specs.Words.{instructionWidth};
 ghost use Rattle.format.specs.WellFormed.{word, operandFrom, middleFrom, instructionFrom};
 ghost use Rattle.table_code.specs.Tests.{isSome, operandThere, registersRight, middleThere, middleRight, instructionThere};

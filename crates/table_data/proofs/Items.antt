@@ -21,17 +21,17 @@ use Rattle.format.specs.declared.module.Shape.{Shape}
 use Rattle.format.specs.declared.module.Shape.the-variants as S
 use Rattle.format.specs.Operands.{spanOf}
 use Rattle.format.specs.Reading.{got}
-use Rattle.laws.specs.Loops.{Whole}
+use Rattle.law_format.specs.Loops.{Whole}
 use Rattle.format.specs.Records.{kinds, kindOf, shapeOf}
 use Rattle.values.specs.View.{maybeKind}
 use Rattle.format.specs.Words.{itemWidth}
 use Rattle.format.specs.Sections.{itemOf}
 use Rattle.format.specs.WellFormed.{isSpan, sameSpan, withSome, numbered, onlyIf, word, recordOf, itemFrom}
 use Rattle.format.proofs.Ranges.{none-past}
-use Rattle.laws.proofs.Froms.{from-got, only-some}
-use Rattle.laws.proofs.Told.{told}
-use Rattle.laws.proofs.Truth.{and-both}
-use Rattle.laws.proofs.Whole.{whole-got}
+use Rattle.law_format.proofs.Froms.{from-got, only-some}
+use Rattle.law_format.proofs.Told.{told}
+use Rattle.law_format.proofs.Truth.{and-both}
+use Rattle.law_format.proofs.Whole.{whole-got}
 use Rattle.table_pieces.specs.Bytes.{byteOf}
 use Rattle.table_pieces.proofs.Facts.{byte-says, byte-kept}
 use Rattle.table_pieces.proofs.Tested.{Recorded, read-room}

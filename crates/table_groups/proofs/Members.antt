@@ -8,11 +8,11 @@ use Rattle.format.specs.declared.module.Handler.{Handler}
 use Rattle.format.specs.declared.module.ExceptionCase.{ExceptionCase}
 use Rattle.format.specs.declared.refusal.Refusal.{Refusal}
 use Rattle.format.specs.Reading.{got, refused, many}
-use Rattle.laws.specs.Loops.{ends, stops, endOf}
+use Rattle.law_format.specs.Loops.{ends, stops, endOf}
 use Rattle.format.specs.WellFormed.{functionCountFrom, functionFrom, importFrom, handlerFrom, caseFrom, lastFrom, casesFrom, handledFrom}
-use Rattle.laws.specs.Cased.{Cased}
-use Rattle.laws.proofs.Many.{ended, stopped}
-use Rattle.laws.proofs.Scans.{end-named, scan-renamed}
+use Rattle.law_format.specs.Cased.{Cased}
+use Rattle.law_format.proofs.Many.{ended, stopped}
+use Rattle.law_format.proofs.Scans.{end-named, scan-renamed}
 use Rattle.rows.specs.declared.Kind.the-variants as K
 use Rattle.rows.specs.Row as R
 use Rattle.rows.specs.declared.groups.Group.the-variants as G

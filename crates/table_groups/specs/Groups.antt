@@ -4,7 +4,7 @@ use mathlib.Core.List.{List}
 use lib.IntN.{ℤ}
 use Rattle.format.specs.Reading.{Reads}
 use Rattle.format.specs.WellFormed.{importFrom, handledFrom}
-use Rattle.laws.specs.Loops.{renamed}
+use Rattle.law_format.specs.Loops.{renamed}
 use Rattle.rows.specs.declared.groups.Group.{Group}
 use Rattle.rows.specs.declared.groups.Group.the-variants as G
 use Rattle.rows.specs.Groups.{Grouped, imports, handled}

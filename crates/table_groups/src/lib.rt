@@ -14,7 +14,7 @@ use table_rows::EndFrom;
 use table_rows::check_rows;
 ghost use mathlib.Core.Path.{_≡_};
 ghost use Rattle.format.specs.Reading.{many};
-ghost use Rattle.laws.specs.Loops.{endOf};
+ghost use Rattle.law_format.specs.Loops.{endOf};
 ghost use Rattle.table_rows.specs.View.{endFrom};
 ghost use Rattle.table_groups.specs.Groups.{groupFrom};
 

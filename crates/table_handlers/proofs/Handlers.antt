@@ -14,8 +14,8 @@ use Rattle.format.specs.declared.module.ExceptionCase.{ExceptionCase}
 use Rattle.format.specs.Words.{handlerWidth, casesPlace, caseWidth}
 use Rattle.format.specs.Sections.{nowhere}
 use Rattle.format.specs.WellFormed.{isName, sameSpan, word, withSome, numbered, onlyIf, recordOf, handlerThere, handlerFrom, caseThere, caseFrom, lastFrom}
-use Rattle.laws.specs.Cased.{Cased}
-use Rattle.laws.proofs.Truth.{and-both}
+use Rattle.law_format.specs.Cased.{Cased}
+use Rattle.law_format.proofs.Truth.{and-both}
 use Rattle.table_pieces.proofs.Tested.{Tested}
 use Rattle.table_handlers.specs.Tests.{caseCountRight}
 

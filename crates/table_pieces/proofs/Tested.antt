@@ -14,12 +14,12 @@ use lib.IntN.{ℤ}
 use lib.ListN.{length, getElem?}
 use Rattle.format.specs.declared.refusal.Refusal.the-variants.{NotWellFormed}
 use Rattle.format.specs.Reading.{Reads, got, refused, many}
-use Rattle.laws.specs.Loops.{leading, Whole}
+use Rattle.law_format.specs.Loops.{leading, Whole}
 use Rattle.format.specs.Records.{wordLimit}
 use Rattle.format.specs.WellFormed.{orBad, onlyIf, recordOf}
-use Rattle.laws.proofs.Froms.{from-there, from-outside, from-bad, Inside, from-got, only-if, only-not, only-some}
-use Rattle.laws.proofs.Many.{leading-turn}
-use Rattle.laws.proofs.Whole.{whole-got, whole-first, whole-next}
+use Rattle.law_format.proofs.Froms.{from-there, from-outside, from-bad, Inside, from-got, only-if, only-not, only-some}
+use Rattle.law_format.proofs.Many.{leading-turn}
+use Rattle.law_format.proofs.Whole.{whole-got, whole-first, whole-next}
 
 -- ---- what stands there, taken where it passes its test
 

@@ -6,10 +6,10 @@ use mathlib.Core.List.{List}
 use lib.IntN.{ℤ}
 use lib.ListN.{length}
 use Rattle.format.specs.Reading.{got, Reads, give}
-use Rattle.laws.specs.Loops.{Whole, renamed}
+use Rattle.law_format.specs.Loops.{Whole, renamed}
 use Rattle.format.specs.WellFormed.{instructionFrom, typeFrom, itemFrom, exportFrom, functionFrom, caseFrom}
-use Rattle.laws.proofs.Scans.{renamed-got}
-use Rattle.laws.proofs.Whole.{whole-part}
+use Rattle.law_format.proofs.Scans.{renamed-got}
+use Rattle.law_format.proofs.Whole.{whole-part}
 use Rattle.rows.specs.declared.Kind.{Kind}
 use Rattle.rows.specs.declared.Kind.the-variants as K
 use Rattle.rows.specs.Row.{Row}

@@ -5,7 +5,7 @@ use lib.IntN.{ℤ}
 use Rattle.format.specs.Reading.{Reads}
 use Rattle.format.specs.Words.{instructionWidth, typeWidth, itemWidth, exportWidth, functionWidth, caseWidth}
 use Rattle.format.specs.WellFormed.{instructionFrom, typeFrom, itemFrom, exportFrom, functionFrom, caseFrom}
-use Rattle.laws.specs.Loops.{renamed}
+use Rattle.law_format.specs.Loops.{renamed}
 use Rattle.rows.specs.declared.Kind.{Kind}
 use Rattle.rows.specs.declared.Kind.the-variants as K
 use Rattle.rows.specs.Row.{Row}

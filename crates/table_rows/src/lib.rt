@@ -19,7 +19,7 @@ use table_types::TypeFrom;
 use table_types::type_from;
 ghost use mathlib.Core.Path.{_≡_};
 ghost use Rattle.format.specs.Reading.{many};
-ghost use Rattle.laws.specs.Loops.{endOf};
+ghost use Rattle.law_format.specs.Loops.{endOf};
 ghost use Rattle.table_code.specs.View.{goodEnd};
 ghost use Rattle.table_rows.specs.Rows.{rowWidth, rowFrom};
 ghost use Rattle.table_rows.specs.View.{endFrom};

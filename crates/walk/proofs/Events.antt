@@ -5,16 +5,16 @@ use mathlib.Core.Path.{_≡_, ap, _∙_}
 use mathlib.Core.List.{List}
 use lib.IntN.{ℤ}
 use lib.ListN.{length, getElem?}
-use Rattle.laws.proofs.Types.{Module, State}
+use Rattle.law_format.proofs.Types.{Module, State}
 use Rattle.format.specs.declared.walk.WalkAnswer.the-variants.{Walked}
 use Rattle.format.specs.Reading.{many}
-use Rattle.laws.specs.Loops.{leading, Whole}
+use Rattle.law_format.specs.Loops.{leading, Whole}
 use Rattle.format.specs.WellFormed.{instructionFrom, typeFrom, exportFrom, handledFrom}
 use Rattle.format.specs.Walk.{Event, entry, export, next, raise, entered, exportOr, advanced, firstHandler, fromThere, moved, walkOf}
-use Rattle.laws.proofs.Many.{many-length}
-use Rattle.laws.proofs.Walks.{walk-is}
-use Rattle.tables.specs.declared.Places.{Places}
-use Rattle.tables.specs.Laid.{GoodAt, recordsAt}
+use Rattle.law_format.proofs.Many.{many-length}
+use Rattle.law_format.proofs.Walks.{walk-is}
+use Rattle.table_check.specs.declared.Places.{Places}
+use Rattle.table_check.specs.Laid.{GoodAt, recordsAt}
 
 module _ (m : Module) (file : List ℕ) (words : List ℤ) (p : Places) (good : GoodAt m file words p) (s : State) where
   abbrev code : ℕ

@@ -6,10 +6,10 @@ use crate::known::raise_in;
 use format::module::Module;
 use format::walk::State;
 use format::walk::WalkAnswer;
-use moves::entered;
-use moves::stepped;
-use tables::Checked;
-use tables::check;
+use table_check::Checked;
+use table_check::check;
+use walk_moves::entered;
+use walk_moves::stepped;
 ghost use mathlib.Core.Path.{_≡_};
 ghost use Rattle.format.specs.Walk as Spec;
 

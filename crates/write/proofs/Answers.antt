@@ -17,31 +17,31 @@ use Rattle.format.specs.declared.module.WriteAnswer.the-variants.{Written, Refu
 use Rattle.format.specs.declared.refusal.Refusal.{Refusal}
 use Rattle.format.specs.declared.refusal.Refusal.the-variants.{TooLarge, NoFlag, ShortOutput}
 use Rattle.format.specs.Reading.{got, refused}
-use Rattle.laws.specs.Loops.{leading}
+use Rattle.law_format.specs.Loops.{leading}
 use Rattle.format.specs.Records.{Records, sizeLimit}
 use Rattle.format.specs.Put.{put}
 use Rattle.format.specs.Words.{flatten}
 use Rattle.format.specs.WellFormed.{instructionFrom, typeFrom, itemFrom, exportFrom, importFrom, handledFrom, recordsOf}
 use Rattle.format.specs.Content.{Content, contentOf, typeShown, itemShown, exportShown, functionShown, handlerShown}
 use Rattle.format.specs.Writing.{Part, operand, raw, partBytes, Line, lineBytes, instructionLine, typeLine, itemLine, exportLine, importLines, handlerLines, flagged, layout, encode, wideFault, flagFault, bytesOf as writtenBytes, written, writeOf}
-use Rattle.laws.proofs.Many.{All, many-length}
-use Rattle.laws.proofs.Scans.{leading-renamed, flatten-renamed}
+use Rattle.law_format.proofs.Many.{All, many-length}
+use Rattle.law_format.proofs.Scans.{leading-renamed, flatten-renamed}
 use Rattle.rows.specs.Row as R
 use Rattle.rows.specs.declared.groups.Group.{Group}
 use Rattle.rows.specs.declared.groups.Group.the-variants as G
 use Rattle.rows.specs.Groups.{imports, handled, flagOf}
-use Rattle.tables.specs.declared.Places.{Places}
-use Rattle.tables.specs.Laid.{GoodAt, recordsAt}
-use Rattle.laws.proofs.Lists.{flatten-flatten}
-use Rattle.laws.proofs.Narrow.{NarrowPart, Narrow, wide-none as narrow-all}
-use Rattle.lines.specs.Lines.{firstWide, bytesOf}
-use Rattle.line_bytes.specs.Laid.{Ready}
-use Rattle.lines.proofs.Forms.{wide-none, wide-append}
-use Rattle.measure.specs.Measured.{groupLines, measured}
-use Rattle.measure.specs.Layout.{Allowed, AllAllowed, moduleLines}
-use Rattle.measure.proofs.Sizes.{measured-told, measured-wide}
+use Rattle.table_check.specs.declared.Places.{Places}
+use Rattle.table_check.specs.Laid.{GoodAt, recordsAt}
+use Rattle.law_format.proofs.Lists.{flatten-flatten}
+use Rattle.law_format.proofs.Narrow.{NarrowPart, Narrow, wide-none as narrow-all}
+use Rattle.write_lines.specs.Lines.{firstWide, bytesOf}
+use Rattle.write_bytes.specs.Laid.{Ready}
+use Rattle.write_lines.proofs.Forms.{wide-none, wide-append}
+use Rattle.write_measure.specs.Measured.{groupLines, measured}
+use Rattle.write_measure.specs.Layout.{Allowed, AllAllowed, moduleLines}
+use Rattle.write_measure.proofs.Sizes.{measured-told, measured-wide}
 use Rattle.write.specs.Wrote.{partsOf}
-use Rattle.measure.proofs.Grouped.{rows-lines, map-map}
+use Rattle.write_measure.proofs.Grouped.{rows-lines, map-map}
 
 -- ---- the answers
 

@@ -5,35 +5,35 @@ use mathlib.Core.Path.{_≡_, refl, sym, ap, _∙_, subst}
 use mathlib.Core.List.{List, [], _∷_, _++_, append-nil, append-assoc}
 use Rattle.format.specs.declared.instruction.Instruction.{Instruction}
 use Rattle.format.specs.Reading.{got, Reads, many}
-use Rattle.laws.specs.Loops.{leading, reached, Whole}
+use Rattle.law_format.specs.Loops.{leading, reached, Whole}
 use Rattle.format.specs.WellFormed.{instructionFrom}
 use Rattle.format.specs.Words.{flatten}
 use Rattle.format.specs.Writing.{Part, Line, instructionLine, partBytes}
-use Rattle.laws.proofs.Flatten.{flatten-append}
-use Rattle.laws.proofs.Many.{leading-done, leading-turn}
-use Rattle.laws.proofs.Scans.{reached-done, reached-turn}
-use Rattle.laws.proofs.Whole.{whole-first, whole-next}
+use Rattle.law_format.proofs.Flatten.{flatten-append}
+use Rattle.law_format.proofs.Many.{leading-done, leading-turn}
+use Rattle.law_format.proofs.Scans.{reached-done, reached-turn}
+use Rattle.law_format.proofs.Whole.{whole-first, whole-next}
 use Rattle.rows.specs.declared.Kind.{Kind}
 use Rattle.rows.specs.declared.Kind.the-variants as K
 use Rattle.rows.specs.Row as R
 use lib.IntN.{ℤ}
 use lib.ListN.{length, length-append}
-use Rattle.laws.proofs.Put.{length-put}
+use Rattle.law_format.proofs.Put.{length-put}
 use native.Mathlib.Omega.{arith}
 use Rattle.format.specs.Put.{put}
-use Rattle.lines.specs.Lines.{bytesOf, firstWide, rowLine}
-use Rattle.lines.proofs.Forms.{both-none, wide-append}
-use Rattle.table_lines.specs.There.{partsThere}
-use Rattle.table_lines.specs.Over.{Over}
-use Rattle.table_lines.proofs.Overs.{stored-over, over-same}
-use Rattle.line_bytes.specs.Laid.{Ready, Laid}
-use Rattle.line_bytes.proofs.Chain.{Writing, writing, ready, ready-last, step, finish, finish-last}
+use Rattle.write_lines.specs.Lines.{bytesOf, firstWide, rowLine}
+use Rattle.write_lines.proofs.Forms.{both-none, wide-append}
+use Rattle.write_code.specs.There.{partsThere}
+use Rattle.write_code.specs.Over.{Over}
+use Rattle.write_code.proofs.Overs.{stored-over, over-same}
+use Rattle.write_bytes.specs.Laid.{Ready, Laid}
+use Rattle.write_bytes.proofs.Chain.{Writing, writing, ready, ready-last, step, finish, finish-last}
 use Rattle.table_rows.specs.Rows.{rowWidth, rowFrom}
 use Rattle.table_rows.proofs.Reach.{renamed-whole}
-use Rattle.measure.specs.Measured.{rowLines}
-use Rattle.measure.specs.Rows.{partsIn}
-use Rattle.measure.proofs.Coded.{Coded, coded}
-use Rattle.measure.proofs.Rowed.{Rowed, rowed}
+use Rattle.write_measure.specs.Measured.{rowLines}
+use Rattle.write_measure.specs.Rows.{partsIn}
+use Rattle.write_measure.proofs.Coded.{Coded, coded}
+use Rattle.write_measure.proofs.Rowed.{Rowed, rowed}
 use Rattle.write.specs.Wrote.{partsOf}
 
 pub parts-append : (xs ys : List Line) → partsOf (xs ++ ys) ≡ partsOf xs ++ partsOf ys

@@ -7,10 +7,10 @@ use Rattle.format.specs.declared.module.Module.{Module}
 use Rattle.format.specs.Reading.{got}
 use Rattle.format.specs.Words.{flatten}
 use Rattle.format.specs.Writing.{Part, Line}
-use Rattle.line_bytes.specs.Laid.{Laid}
-use Rattle.tables.specs.declared.Places.{Places}
-use Rattle.measure.specs.Measured.{measured}
-use Rattle.measure.specs.Layout.{moduleLines}
+use Rattle.write_bytes.specs.Laid.{Laid}
+use Rattle.table_check.specs.declared.Places.{Places}
+use Rattle.write_measure.specs.Measured.{measured}
+use Rattle.write_measure.specs.Layout.{moduleLines}
 use Rattle.write.specs.declared.runs.Wrote.{Wrote}
 
 -- lines, as the parts they are made of

@@ -6,7 +6,6 @@ use crate::runs::write_rows;
 use format::module::CASE_WIDTH;
 use format::module::HANDLER_WIDTH;
 use format::module::IMPORT_WIDTH;
-use line_pieces::put_byte;
 use rows::Kind;
 use rows::groups::Group;
 use rows::groups::flag_of;
@@ -16,16 +15,17 @@ use table_handlers::handler_from;
 use table_handlers::last_from;
 use table_names::FunctionCountFrom;
 use table_names::function_count_from;
+use write_pieces::put_byte;
 ghost use Prim.Native.Nat.{_≤_, _<_, _^_};
 ghost use lib.ListN.{length};
 ghost use Rattle.format.specs.Reading.{many};
-ghost use Rattle.laws.specs.Loops.{thenPlace, leading, Whole};
+ghost use Rattle.law_format.specs.Loops.{thenPlace, leading, Whole};
 ghost use Rattle.format.specs.Records.{sizeLimit};
 ghost use Rattle.format.specs.WellFormed.{lastFrom};
 ghost use Rattle.format.specs.Words.{flatten};
-ghost use Rattle.line_bytes.specs.Laid.{Ready, Laid};
+ghost use Rattle.write_bytes.specs.Laid.{Ready, Laid};
 ghost use Rattle.table_groups.specs.Groups.{groupFrom};
-ghost use Rattle.measure.specs.Measured.{groupLines, lastLines, linesIn, sectionLines};
+ghost use Rattle.write_measure.specs.Measured.{groupLines, lastLines, linesIn, sectionLines};
 ghost use Rattle.write.specs.Wrote.{partsOf, Done};
 
 fn write_import(file: &[u8], words: &[i32], w: usize, out: &mut [u8], at: usize) -> Wrote

@@ -2,13 +2,13 @@
 use format::module::Handler;
 use format::module::Header;
 use format::module::XMAGIC;
-use line_pieces::operand::put_operand;
+use write_pieces::operand::put_operand;
 ghost use mathlib.Core.List.{[], _∷_, map};
 ghost use Rattle.format.specs.Content.{numbersOf};
 ghost use Rattle.format.specs.Writing.{operand, headerLine};
-ghost use Rattle.line_bytes.specs.Laid.{Ready, Laid};
-ghost use Rattle.laws.specs.Cased.{Cased};
-ghost use Rattle.measure.specs.Heads.{headLine};
+ghost use Rattle.write_bytes.specs.Laid.{Ready, Laid};
+ghost use Rattle.law_format.specs.Cased.{Cased};
+ghost use Rattle.write_measure.specs.Heads.{headLine};
 
 pub fn put_operands(out: &mut [u8], at: usize, values: &[i32]) -> usize
     requires { ⌜ Ready (map operand (now values)) at (now out) ⌝ }

@@ -9,20 +9,20 @@ use format::module::FILE_LIMIT;
 use format::module::Module;
 use format::module::WriteAnswer;
 use format::refusal::Refusal;
-use measure::Measured;
-use measure::whole::measure;
 use rows::groups::Group;
 use rows::groups::flag_of;
-use tables::Checked;
-use tables::Places;
-use tables::check;
+use table_check::Checked;
+use table_check::Places;
+use table_check::check;
+use write_measure::Measured;
+use write_measure::whole::measure;
 ghost use mathlib.Core.Path.{_≡_};
 ghost use mathlib.Core.Bool.{_||_};
 ghost use lib.Dec.{eqb};
 ghost use Rattle.format.specs.Writing.{writeOf};
 ghost use Rattle.rows.specs.Groups.{flagOf};
-ghost use Rattle.tables.specs.Laid.{GoodAt};
-ghost use Rattle.measure.specs.Layout.{AllAllowed};
+ghost use Rattle.table_check.specs.Laid.{GoodAt};
+ghost use Rattle.write_measure.specs.Layout.{AllAllowed};
 ghost use Rattle.write.specs.Wrote.{Sized};
 
 // Refusal 23: a section with records has its flag.

@@ -1,29 +1,29 @@
 // Runs of rows of one kind: one loop for every kind, and before it another for most of the instructions.
 use format::module::INSTRUCTION_WIDTH;
-use line_bytes::put_case;
-use line_bytes::put_export;
-use line_bytes::put_function;
-use line_bytes::put_item;
-use line_bytes::put_type;
 use rows::Kind;
 use table_data::item_there;
 use table_handlers::case_there;
-use table_lines::bytes::put_there;
-use table_lines::slots::put_over;
 use table_names::export_there;
 use table_names::function_there;
 use table_rows::row_width;
 use table_types::type_there;
+use write_bytes::put_case;
+use write_bytes::put_export;
+use write_bytes::put_function;
+use write_bytes::put_item;
+use write_bytes::put_type;
+use write_code::bytes::put_there;
+use write_code::slots::put_over;
 ghost use Prim.Native.Nat.{_≤_};
 ghost use lib.ListN.{length};
 ghost use Rattle.format.specs.Reading.{many};
-ghost use Rattle.laws.specs.Loops.{leading, reached, Whole};
+ghost use Rattle.law_format.specs.Loops.{leading, reached, Whole};
 ghost use Rattle.format.specs.Records.{sizeLimit};
 ghost use Rattle.format.specs.Words.{flatten};
-ghost use Rattle.line_bytes.specs.Laid.{Ready, Laid};
+ghost use Rattle.write_bytes.specs.Laid.{Ready, Laid};
 ghost use Rattle.table_rows.specs.Rows.{rowFrom};
-ghost use Rattle.measure.specs.Measured.{rowLines};
-ghost use Rattle.measure.specs.Rows.{partsIn};
+ghost use Rattle.write_measure.specs.Measured.{rowLines};
+ghost use Rattle.write_measure.specs.Rows.{partsIn};
 ghost use Rattle.write.specs.Wrote.{partsOf, Done};
 
 // The word where the next record begins, and the place past what was written.

@@ -4,16 +4,16 @@ use crate::heads::put_header;
 use crate::runs::write_rows;
 use format::module::Module;
 use format::types::Span;
-use line_pieces::put_byte;
-use line_pieces::put_ended;
 use rows::Kind;
 use rows::groups::Group;
 use spans::name;
-use tables::Places;
+use table_check::Places;
+use write_pieces::put_byte;
+use write_pieces::put_ended;
 ghost use Rattle.format.specs.Operands.{shown};
-ghost use Rattle.line_bytes.specs.Laid.{Ready, Laid};
-ghost use Rattle.tables.specs.Laid.{GoodAt};
-ghost use Rattle.measure.specs.Layout.{nameLines, moduleLines};
+ghost use Rattle.write_bytes.specs.Laid.{Ready, Laid};
+ghost use Rattle.table_check.specs.Laid.{GoodAt};
+ghost use Rattle.write_measure.specs.Layout.{nameLines, moduleLines};
 ghost use Rattle.write.specs.Wrote.{partsOf};
 
 // The byte that ends the data, and the module's name.

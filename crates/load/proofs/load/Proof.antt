@@ -1,9 +1,9 @@
 use mathlib.Core.Path.{subst}
 use denote.Ref.{now}
 use borrow.Author.Needs.{needs}
-use Rattle.survey.specs.Survey.{FrontSays, MiddleSays, BackSays, FrontIs, MiddleIs, BackIs}
-use Rattle.laws.proofs.Loads.{load-large, load-parse}
-use Rattle.laws.proofs.OperandBack.{Bytes}
+use Rattle.load_survey.specs.Survey.{FrontSays, MiddleSays, BackSays, FrontIs, MiddleIs, BackIs}
+use Rattle.law_format.proofs.Loads.{load-large, load-parse}
+use Rattle.law_format.proofs.OperandBack.{Bytes}
 use Rattle.load.proofs.load.Statement.{statement}
 use Rattle.load.proofs.load.Tie as tie
 

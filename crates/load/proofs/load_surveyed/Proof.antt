@@ -4,9 +4,9 @@ use native.Mathlib.Omega.{arith}
 use borrow.Author.Needs.{needs}
 use Rattle.format.specs.Checks.{faultIn}
 use Rattle.format.specs.Words.{wordsNeeded}
-use Rattle.laws.proofs.Told.{told}
-use Rattle.laws.proofs.Loads.{load-fault}
-use Rattle.checks.specs.View.{faultOf}
+use Rattle.law_format.proofs.Told.{told}
+use Rattle.law_format.proofs.Loads.{load-fault}
+use Rattle.load_checks.specs.View.{faultOf}
 use Rattle.load.proofs.Facts.{records, parsed, limit, late-is, needed-is, beside-is, few, whole}
 use Rattle.load.proofs.load_surveyed.Statement.{statement}
 use Rattle.load.proofs.load_surveyed.Tie as tie

@@ -1,5 +1,5 @@
 use mathlib.Core.Path.{refl, sym}
-use Rattle.laws.proofs.OperandCases.{byte-there, byte-past}
+use Rattle.law_format.proofs.OperandCases.{byte-there, byte-past}
 use Rattle.reader.proofs.Facts.{found-as}
 use borrow.Author.Needs.{needs}
 use Rattle.reader.proofs.read_byte.Statement.{statement}

@@ -5,8 +5,8 @@ use mathlib.Core.Option.{some}
 use native.Mathlib.Omega.{arith}
 use lib.ListN.{length, drop}
 use Rattle.format.specs.Operands.{zeroIn}
-use Rattle.laws.proofs.Names.{further, further-here, further-never, further-suc, further-none, zero-here, zero-later, zero-none}
-use Rattle.laws.proofs.OperandCases.{name-whole, name-short}
+use Rattle.law_format.proofs.Names.{further, further-here, further-never, further-suc, further-none, zero-here, zero-later, zero-none}
+use Rattle.law_format.proofs.OperandCases.{name-whole, name-short}
 use Rattle.reader.proofs.Facts.{found-as}
 use Rattle.reader.proofs.read_name.Statement.{statement}
 use Rattle.reader.proofs.read_name.Tie as tie

@@ -6,7 +6,7 @@ use lib.ListN.{getD}
 use mir.Syntax.{w32}
 use mir.Facts.{toZ-pos, toZ-ofZ}
 use Rattle.bits.specs.Bits.{signed}
-use Rattle.laws.proofs.OperandCases.{operand-past, operand-low, operand-minus, operand-two, operand-two-short, operand-four, operand-four-short}
+use Rattle.law_format.proofs.OperandCases.{operand-past, operand-low, operand-minus, operand-two, operand-two-short, operand-four, operand-four-short}
 use Rattle.reader.proofs.Facts.{found-as, low-six, less-128}
 use borrow.Author.Needs.{needs}
 use Rattle.reader.proofs.read_operand.Statement.{statement}

@@ -1,6 +1,6 @@
 use mathlib.Core.Path.{refl, sym}
 use native.Mathlib.Omega.{arith}
-use Rattle.laws.proofs.OperandCases.{span-whole, span-short}
+use Rattle.law_format.proofs.OperandCases.{span-whole, span-short}
 use Rattle.reader.proofs.Facts.{found-as}
 use borrow.Author.Needs.{needs}
 use Rattle.reader.proofs.read_span.Statement.{statement}

@@ -4,7 +4,7 @@ use native.Mathlib.Omega.{arith}
 use borrow.Author.Needs.{sfits-of}
 use mir.Facts.{toZ-ofZ}
 use Rattle.bits.specs.Bits.{signed}
-use Rattle.laws.proofs.OperandCases.{word-whole, word-short}
+use Rattle.law_format.proofs.OperandCases.{word-whole, word-short}
 use Rattle.reader.proofs.Facts.{found-as}
 use borrow.Author.Needs.{needs}
 use Rattle.reader.proofs.read_word.Statement.{statement}

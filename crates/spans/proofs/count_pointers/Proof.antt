@@ -3,7 +3,7 @@ use native.Mathlib.Omega.{arith}
 use lib.ListN.{length}
 use borrow.Author.Needs.{needs}
 use Rattle.format.specs.Records.{onesOf}
-use Rattle.laws.proofs.Names.{length-shown}
+use Rattle.law_format.proofs.Names.{length-shown}
 use Rattle.spans.proofs.count_pointers.Statement.{statement}
 use Rattle.spans.proofs.count_pointers.Tie as tie
 

@@ -1,7 +1,7 @@
 use mathlib.Core.Path.{_≡_, refl}
 use lib.IntN.{pos}
 use Rattle.bits.proofs.Signs.{natural-is, natural-not, passed}
-use Rattle.laws.proofs.Names.{before-file, no-length, span-is}
+use Rattle.law_format.proofs.Names.{before-file, no-length, span-is}
 use Rattle.spans.proofs.Outside.{part-outside}
 use borrow.Author.Needs.{needs}
 use Rattle.spans.proofs.name.Statement.{statement}

@@ -5,7 +5,7 @@ use native.Mathlib.Omega.{arith}
 use native.Mathlib.Nat.{zero-add, add-sub-cancel-left, min-le-left, le-trans}
 use lib.ListN.{length, drop, length-take}
 use Rattle.format.specs.Records.{onesOf}
-use Rattle.laws.proofs.Names.{ones-part, ones-rest}
+use Rattle.law_format.proofs.Names.{ones-part, ones-rest}
 use Rattle.spans.proofs.ones_in.Statement.{statement}
 use Rattle.spans.proofs.ones_in.Tie as tie
 

@@ -6,7 +6,7 @@ use native.Mathlib.Nat.{zero-add}
 use lib.Count.{ones, ones-le}
 use lib.ListN.{length, drop}
 use Rattle.format.specs.Records.{onesOf}
-use Rattle.laws.proofs.Names.{ones-turn, ones-done}
+use Rattle.law_format.proofs.Names.{ones-turn, ones-done}
 use Rattle.spans.proofs.ones_in_few.Statement.{statement}
 use Rattle.spans.proofs.ones_in_few.Tie as tie
 

@@ -3,7 +3,7 @@ use mathlib.Core.Path.{refl, ap, _∙_}
 use native.Mathlib.Omega.{arith}
 use denote.Ref.{now}
 use lib.ListN.{length}
-use Rattle.laws.specs.Loops.{endOf}
+use Rattle.law_format.specs.Loops.{endOf}
 use Rattle.format.specs.Records.{wordLimit}
 use Rattle.table_pieces.proofs.Tested.{fits, no-room, is-said}
 use Rattle.table_code.specs.Tests.{instructionThere}

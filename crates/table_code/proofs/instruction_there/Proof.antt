@@ -6,7 +6,7 @@ use denote.Ref.{now}
 use lib.Dec.{leb}
 use Prim.Native.Nat.{_+_}
 use Rattle.format.specs.WellFormed.{numbered, onlyIf, word, operandFrom, middleFrom}
-use Rattle.laws.proofs.Told.{told}
+use Rattle.law_format.proofs.Told.{told}
 use Rattle.table_pieces.proofs.Facts.{byte-kept}
 use Rattle.table_code.specs.declared.OperandFrom.{OperandFrom}
 use Rattle.table_code.specs.declared.MiddleFrom.{MiddleFrom}

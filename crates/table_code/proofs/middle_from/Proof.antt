@@ -4,7 +4,7 @@ use Rattle.format.specs.declared.instruction.MaybeMiddleMode.{MaybeMiddleMode}
 use Rattle.format.specs.Records.{middleOf}
 use Rattle.values.specs.View.{maybeMiddle}
 use Rattle.format.specs.WellFormed.{numbered, word}
-use Rattle.laws.proofs.Told.{told}
+use Rattle.law_format.proofs.Told.{told}
 use Rattle.table_pieces.proofs.Facts.{byte-kept}
 use Rattle.table_pieces.proofs.Tested.{only-passes, only-fails}
 use Rattle.table_code.specs.Tests.{middleRight}

@@ -3,7 +3,7 @@ use native.Mathlib.Omega.{arith}
 use borrow.Author.Tests.{eq-eqb, ne-eqb}
 use Rattle.format.specs.declared.module.Shape.the-variants.{Words, Single}
 use Rattle.format.specs.Records.{shapeOf}
-use Rattle.laws.proofs.Values.{length-most}
+use Rattle.law_format.proofs.Values.{length-most}
 use borrow.Author.Needs.{needs}
 use Rattle.table_data.proofs.shape_right.Statement.{statement}
 use Rattle.table_data.proofs.shape_right.Tie as tie

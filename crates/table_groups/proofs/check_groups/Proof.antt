@@ -3,9 +3,9 @@ use mathlib.Core.Path.{_≡_, refl, sym, _∙_}
 use native.Mathlib.Omega.{arith}
 use denote.Ref.{now}
 use Rattle.format.specs.Reading.{many}
-use Rattle.laws.specs.Loops.{endOf}
-use Rattle.laws.proofs.Many.{scan-done, scan-turn, scan-stop, ended, stopped}
-use Rattle.laws.proofs.Told.{told}
+use Rattle.law_format.specs.Loops.{endOf}
+use Rattle.law_format.proofs.Many.{scan-done, scan-turn, scan-stop, ended, stopped}
+use Rattle.law_format.proofs.Told.{told}
 use Rattle.table_rows.specs.View.{endFrom}
 use Rattle.table_groups.specs.Groups.{groupFrom}
 use borrow.Author.Needs.{needs}

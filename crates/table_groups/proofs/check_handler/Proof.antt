@@ -3,11 +3,11 @@ use mathlib.Core.Path.{_≡_, sym}
 use native.Mathlib.Omega.{arith}
 use denote.Ref.{now}
 use Rattle.format.specs.Reading.{got, many}
-use Rattle.laws.specs.Loops.{endOf}
+use Rattle.law_format.specs.Loops.{endOf}
 use Rattle.format.specs.WellFormed.{handlerFrom, lastFrom}
-use Rattle.laws.proofs.Groups.{cases-are}
-use Rattle.laws.specs.Cased.{Cased}
-use Rattle.laws.proofs.Told.{told}
+use Rattle.law_format.proofs.Groups.{cases-are}
+use Rattle.law_format.specs.Cased.{Cased}
+use Rattle.law_format.proofs.Told.{told}
 use Rattle.rows.specs.declared.Kind.the-variants.{Cases}
 use Rattle.table_pieces.proofs.Tested.{recorded, read-room}
 use Rattle.table_handlers.specs.declared.CaseFrom.{CaseFrom}

@@ -4,7 +4,7 @@ use native.Mathlib.Omega.{arith}
 use denote.Ref.{now}
 use Rattle.format.specs.Reading.{got}
 use Rattle.format.specs.WellFormed.{functionCountFrom}
-use Rattle.laws.proofs.Told.{told}
+use Rattle.law_format.proofs.Told.{told}
 use Rattle.table_pieces.proofs.Tested.{read-room}
 use Rattle.table_names.specs.View.{functionCountStep}
 use Rattle.table_names.proofs.Names.{functionCounts}

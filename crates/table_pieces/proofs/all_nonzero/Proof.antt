@@ -4,7 +4,7 @@ use mathlib.Core.Path.{_≡_, refl, sym, ap, _∙_}
 use lib.ListN.{length, drop}
 use Rattle.format.specs.Operands.{zeroIn}
 use Rattle.format.specs.WellFormed.{isNone}
-use Rattle.laws.proofs.Names.{zero-here, zero-later, zero-none}
+use Rattle.law_format.proofs.Names.{zero-here, zero-later, zero-none}
 use Rattle.table_pieces.proofs.Facts.{none-later}
 use borrow.Author.Needs.{needs}
 use Rattle.table_pieces.proofs.all_nonzero.Statement.{statement}

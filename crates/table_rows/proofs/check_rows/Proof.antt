@@ -5,8 +5,8 @@ use native.Mathlib.Omega.{arith}
 use borrow.Author.Tests.{not-true, not-false}
 use denote.Ref.{now}
 use Rattle.format.specs.Reading.{got, many}
-use Rattle.laws.specs.Loops.{endOf}
-use Rattle.laws.proofs.Many.{scan-done, scan-turn, scan-stop, ended, stopped}
+use Rattle.law_format.specs.Loops.{endOf}
+use Rattle.law_format.proofs.Many.{scan-done, scan-turn, scan-stop, ended, stopped}
 use Rattle.rows.specs.Row.{Row}
 use Rattle.table_code.specs.View.{goodEnd}
 use Rattle.table_rows.specs.Rows.{rowWidth, rowFrom}

@@ -1,9 +1,9 @@
 use mathlib.Core.Path.{sym, _∙_}
 use denote.Ref.{now}
-use Rattle.laws.specs.Loops.{endOf}
+use Rattle.law_format.specs.Loops.{endOf}
 use Rattle.format.specs.WellFormed.{instructionFrom}
-use Rattle.laws.proofs.Scans.{end-named}
-use Rattle.laws.proofs.Told.{told}
+use Rattle.law_format.proofs.Scans.{end-named}
+use Rattle.law_format.proofs.Told.{told}
 use Rattle.rows.specs.Row as R
 use Rattle.table_types.specs.View.{typeStep}
 use Rattle.table_data.specs.View.{itemStep}

@@ -1,7 +1,7 @@
 use denote.Ref.{now}
 use mathlib.Core.Path.{_∙_}
 use Rattle.format.specs.Walk as Spec
-use Rattle.laws.proofs.Walks.{walk-refused}
+use Rattle.law_format.proofs.Walks.{walk-refused}
 use Rattle.walk.proofs.Events.{export-is, exports-whole}
 use borrow.Author.Needs.{needs}
 use Rattle.walk.proofs.export.Statement.{statement}

@@ -4,8 +4,8 @@ use native.Mathlib.Omega.{arith}
 use lib.Signed.{mag}
 use Rattle.format.specs.Walk as Spec
 use Rattle.format.specs.declared.walk.WalkAnswer.the-variants.{Walked}
-use Rattle.laws.proofs.Walks.{walk-refused}
-use Rattle.tables.proofs.Told.{counts-told}
+use Rattle.law_format.proofs.Walks.{walk-refused}
+use Rattle.table_check.proofs.Told.{counts-told}
 use Rattle.walk.proofs.Events.{next-is}
 use borrow.Author.Needs.{needs}
 use Rattle.walk.proofs.next.Statement.{statement}

@@ -1,6 +1,6 @@
 use denote.Ref.{now}
-use Rattle.laws.proofs.Told.{told}
-use Rattle.measure.specs.Measured.{sizeRead}
+use Rattle.law_format.proofs.Told.{told}
+use Rattle.write_measure.specs.Measured.{sizeRead}
 use Rattle.write.proofs.Answers.{write-wide, spared, too-wide}
 use borrow.Author.Needs.{needs}
 use Rattle.write.proofs.write_allowed.Statement.{statement}

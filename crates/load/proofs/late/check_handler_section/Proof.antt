@@ -9,10 +9,10 @@ use Rattle.format.specs.Reading.{got}
 use Rattle.format.specs.Records.{has}
 use Rattle.format.specs.Sections.{countIn}
 use Rattle.format.specs.Checks.{firstOf, handlerFault}
-use Rattle.laws.proofs.Told.{told}
-use Rattle.laws.proofs.Parsed.{flag-not, flag-count}
-use Rattle.laws.proofs.Whole.{not-whole}
-use Rattle.pieces.specs.View.{countRead}
+use Rattle.law_format.proofs.Told.{told}
+use Rattle.law_format.proofs.Parsed.{flag-not, flag-count}
+use Rattle.law_format.proofs.Whole.{not-whole}
+use Rattle.file_pieces.specs.View.{countRead}
 use Rattle.load.proofs.Facts.{flag-many, flag-said}
 use Rattle.load.proofs.late.check_handler_section.Statement.{statement}
 use Rattle.load.proofs.late.check_handler_section.Tie as tie

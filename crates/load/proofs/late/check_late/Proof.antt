@@ -2,8 +2,8 @@ use mathlib.Core.Path.{sym, _∙_}
 use native.Mathlib.Omega.{arith}
 use borrow.Author.Needs.{needs}
 use Rattle.bits.proofs.Signs.{kept}
-use Rattle.laws.proofs.Told.{told}
-use Rattle.checks.specs.View.{faultOf}
+use Rattle.law_format.proofs.Told.{told}
+use Rattle.load_checks.specs.View.{faultOf}
 use Rattle.load.proofs.Facts.{late, sum, limit, whole-is}
 use Rattle.load.proofs.late.check_late.Statement.{statement}
 use Rattle.load.proofs.late.check_late.Tie as tie

@@ -1,7 +1,7 @@
 use Prim.Native.Nat.{_<_}
 use native.Mathlib.Omega.{arith}
 use borrow.Author.Needs.{needs}
-use Rattle.laws.proofs.Types.{AddressMode, MiddleMode}
+use Rattle.law_format.proofs.Types.{AddressMode, MiddleMode}
 use Rattle.format.specs.declared.instruction.AddressMode.the-variants as A
 use Rattle.format.specs.declared.instruction.MiddleMode.the-variants as M
 use Rattle.format.specs.Records.{modeNumber, middleNumber, addressingByte}

@@ -8,7 +8,7 @@ use mir.Facts.{toZ-ofZ}
 use borrow.Author.Needs.{needs}
 use Rattle.bits.specs.Bits.{bitsOf}
 use Rattle.format.specs.Records.{has, flagValue}
-use Rattle.laws.proofs.Types.{Flag}
+use Rattle.law_format.proofs.Types.{Flag}
 use Rattle.values.proofs.module.contains.Statement.{statement}
 use Rattle.values.proofs.module.contains.Tie as tie
 

@@ -6,11 +6,11 @@ use native.Mathlib.Omega.{arith}
 use lib.ListN.{getElem?}
 use Rattle.format.proofs.Ranges.{none-past}
 use Rattle.format.specs.Reading.{Reads}
-use Rattle.laws.specs.Loops.{leading}
+use Rattle.law_format.specs.Loops.{leading}
 use Rattle.format.specs.WellFormed.{exportFrom}
-use Rattle.laws.proofs.Types.{ExportEntry}
-use Rattle.laws.proofs.Many.{many-length}
-use Rattle.laws.proofs.Whole.{whole-many}
+use Rattle.law_format.proofs.Types.{ExportEntry}
+use Rattle.law_format.proofs.Many.{many-length}
+use Rattle.law_format.proofs.Whole.{whole-many}
 use Rattle.table_names.proofs.Names.{exports}
 use Rattle.table_pieces.proofs.Tested.{Nth, nth}
 use borrow.Author.Needs.{needs}

@@ -1,8 +1,8 @@
 use mathlib.Core.Path.{sym, ap, _∙_}
 use Rattle.bits.proofs.Signs.{kept}
-use Rattle.moves.specs.Stands.{Here}
-use Rattle.search.specs.Choice.{leadsTo}
-use Rattle.search.proofs.Leads.{chosen-leads}
+use Rattle.walk_moves.specs.Stands.{Here}
+use Rattle.walk_search.specs.Choice.{leadsTo}
+use Rattle.walk_search.proofs.Leads.{chosen-leads}
 use borrow.Author.Needs.{needs}
 use Rattle.walk.proofs.known.raise_in.Statement.{statement}
 use Rattle.walk.proofs.known.raise_in.Tie as tie

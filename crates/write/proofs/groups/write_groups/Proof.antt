@@ -3,10 +3,10 @@ use mathlib.Core.Path.{_≡_, sym, ap, _∙_}
 use native.Mathlib.Omega.{arith}
 use denote.Ref.{now}
 use Rattle.format.specs.Reading.{got}
-use Rattle.laws.proofs.Whole.{whole-got, whole-first}
+use Rattle.law_format.proofs.Whole.{whole-got, whole-first}
 use Rattle.rows.specs.Groups.{Grouped}
 use Rattle.table_groups.specs.Groups.{groupFrom}
-use Rattle.measure.specs.Measured.{groupLines}
+use Rattle.write_measure.specs.Measured.{groupLines}
 use Rattle.write.proofs.Laying.{Laying, laying, next-ready, turn, done}
 use borrow.Author.Needs.{needs}
 use Rattle.write.proofs.groups.write_groups.Statement.{statement}

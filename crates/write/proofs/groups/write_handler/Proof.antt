@@ -11,16 +11,16 @@ use Rattle.format.specs.Reading.{got}
 use Rattle.format.specs.Words.{handlerWidth}
 use Rattle.format.specs.WellFormed.{handlerFrom, lastFrom}
 use Rattle.format.specs.Writing.{Part}
-use Rattle.laws.proofs.Groups.{cases-are}
-use Rattle.laws.specs.Cased.{Cased}
-use Rattle.laws.proofs.Told.{told}
-use Rattle.line_bytes.specs.Laid.{Ready}
-use Rattle.line_bytes.proofs.Chain.{Writing, writing, ready, ready-last, step, finish-last}
+use Rattle.law_format.proofs.Groups.{cases-are}
+use Rattle.law_format.specs.Cased.{Cased}
+use Rattle.law_format.proofs.Told.{told}
+use Rattle.write_bytes.specs.Laid.{Ready}
+use Rattle.write_bytes.proofs.Chain.{Writing, writing, ready, ready-last, step, finish-last}
 use Rattle.table_handlers.specs.View.{handlerStep}
 use Rattle.table_groups.proofs.Members.{handler-cased}
-use Rattle.measure.specs.Heads.{headLine}
-use Rattle.measure.specs.Measured.{lastLines, linesIn}
-use Rattle.measure.proofs.Grouped.{beforeLast, namedLines, lastPlace, Handling, handling, handler-bad, head-limit}
+use Rattle.write_measure.specs.Heads.{headLine}
+use Rattle.write_measure.specs.Measured.{lastLines, linesIn}
+use Rattle.write_measure.proofs.Grouped.{beforeLast, namedLines, lastPlace, Handling, handling, handler-bad, head-limit}
 use Rattle.write.specs.Wrote.{partsOf}
 use Rattle.write.proofs.Laying.{parts-append}
 use borrow.Author.Needs.{needs}

@@ -12,11 +12,11 @@ use Rattle.format.specs.Words.{importWidth}
 use Rattle.format.specs.WellFormed.{functionCountFrom}
 use Rattle.format.specs.Writing.{Part, operand}
 use Rattle.bits.proofs.Signs.{kept}
-use Rattle.laws.proofs.Told.{told}
-use Rattle.line_bytes.specs.Laid.{Ready}
-use Rattle.line_bytes.proofs.Chain.{Writing, writing, ready, ready-last, step, finish-last}
+use Rattle.law_format.proofs.Told.{told}
+use Rattle.write_bytes.specs.Laid.{Ready}
+use Rattle.write_bytes.proofs.Chain.{Writing, writing, ready, ready-last, step, finish-last}
 use Rattle.table_names.specs.View.{functionCountStep}
-use Rattle.measure.proofs.Grouped.{functionLines, Imported, imported, import-bad, count-word, count-room, count-limit}
+use Rattle.write_measure.proofs.Grouped.{functionLines, Imported, imported, import-bad, count-word, count-room, count-limit}
 use Rattle.write.specs.Wrote.{partsOf}
 use borrow.Author.Needs.{needs}
 use Rattle.write.proofs.groups.write_import.Statement.{statement}

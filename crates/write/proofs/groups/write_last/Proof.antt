@@ -6,9 +6,9 @@ use Rattle.format.specs.Reading.{got}
 use Rattle.format.specs.Words.{caseWidth}
 use Rattle.format.specs.WellFormed.{lastFrom}
 use Rattle.bits.proofs.Signs.{kept}
-use Rattle.laws.proofs.Told.{told}
+use Rattle.law_format.proofs.Told.{told}
 use Rattle.table_handlers.specs.View.{caseStep}
-use Rattle.measure.proofs.Grouped.{last-limit}
+use Rattle.write_measure.proofs.Grouped.{last-limit}
 use borrow.Author.Needs.{needs}
 use Rattle.write.proofs.groups.write_last.Statement.{statement}
 use Rattle.write.proofs.groups.write_last.Tie as tie

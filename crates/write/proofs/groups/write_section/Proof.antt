@@ -8,10 +8,10 @@ use mir.Facts.{toZ-pos}
 use Rattle.format.specs.Writing.{Part, operand, raw, zeroByte}
 use Rattle.bits.proofs.Signs.{kept}
 use Rattle.rows.specs.Groups.{sectionOf}
-use Rattle.line_bytes.specs.Laid.{Ready}
-use Rattle.line_bytes.proofs.Chain.{Writing, writing, ready, step, finish, laid-none, raw-room, raw-step}
-use Rattle.measure.specs.Layout.{allGroups, groupsAt}
-use Rattle.measure.proofs.Placed.{section-off, section-on}
+use Rattle.write_bytes.specs.Laid.{Ready}
+use Rattle.write_bytes.proofs.Chain.{Writing, writing, ready, step, finish, laid-none, raw-room, raw-step}
+use Rattle.write_measure.specs.Layout.{allGroups, groupsAt}
+use Rattle.write_measure.proofs.Placed.{section-off, section-on}
 use Rattle.write.specs.Wrote.{partsOf}
 use Rattle.write.proofs.Laying.{parts-append}
 use borrow.Author.Needs.{needs}

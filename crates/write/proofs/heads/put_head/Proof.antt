@@ -2,7 +2,7 @@ use mathlib.Core.Path.{_∙_}
 use native.Mathlib.Omega.{arith}
 use mir.Facts.{toZ-ofZ}
 use Rattle.bits.proofs.Signs.{kept}
-use Rattle.measure.proofs.Counted.{one-less}
+use Rattle.write_measure.proofs.Counted.{one-less}
 use borrow.Author.Needs.{needs}
 use Rattle.write.proofs.heads.put_head.Statement.{statement}
 use Rattle.write.proofs.heads.put_head.Tie as tie

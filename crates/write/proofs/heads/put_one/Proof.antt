@@ -1,5 +1,5 @@
 use Rattle.bits.proofs.Signs.{kept}
-use Rattle.line_bytes.proofs.Chain.{writing, finish, operand-ready, operand-step}
+use Rattle.write_bytes.proofs.Chain.{writing, finish, operand-ready, operand-step}
 use borrow.Author.Needs.{needs}
 use Rattle.write.proofs.heads.put_one.Statement.{statement}
 use Rattle.write.proofs.heads.put_one.Tie as tie

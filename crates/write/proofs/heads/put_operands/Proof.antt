@@ -5,8 +5,8 @@ use denote.Ref.{now}
 use lib.ListN.{length, drop}
 use Rattle.format.specs.Writing.{operand}
 use Rattle.bits.proofs.Signs.{kept}
-use Rattle.line_bytes.proofs.Chain.{Writing, writing, finish, operand-ready, operand-step}
-use Rattle.measure.proofs.Facts.{rest-some, rest-none}
+use Rattle.write_bytes.proofs.Chain.{Writing, writing, finish, operand-ready, operand-step}
+use Rattle.write_measure.proofs.Facts.{rest-some, rest-none}
 use borrow.Author.Needs.{needs}
 use Rattle.write.proofs.heads.put_operands.Statement.{statement}
 use Rattle.write.proofs.heads.put_operands.Tie as tie

@@ -5,11 +5,11 @@ use Rattle.format.specs.WellFormed.{instructionFrom, typeThere, exportThere, fu
 use Rattle.format.specs.Writing.{Part}
 use Rattle.rows.specs.declared.Kind.the-variants as K
 use Rattle.rows.specs.Row as R
-use Rattle.line_bytes.specs.Laid.{Ready, Laid}
+use Rattle.write_bytes.specs.Laid.{Ready, Laid}
 use Rattle.table_data.specs.Tests.{itemThere, kindThere}
 use Rattle.table_rows.proofs.Reach.{renamed-whole}
-use Rattle.measure.proofs.Coded.{Coded, coded}
-use Rattle.measure.proofs.Stands.{Stands, type-stands, item-stands, export-stands, function-stands, case-stands}
+use Rattle.write_measure.proofs.Coded.{Coded, coded}
+use Rattle.write_measure.proofs.Stands.{Stands, type-stands, item-stands, export-stands, function-stands, case-stands}
 use borrow.Author.Needs.{needs}
 use Rattle.write.proofs.runs.put_from.Statement.{statement}
 use Rattle.write.proofs.runs.put_from.Tie as tie

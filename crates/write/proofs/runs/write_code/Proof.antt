@@ -3,7 +3,7 @@ use native.Mathlib.Omega.{arith}
 use denote.Ref.{now}
 use Rattle.rows.specs.declared.Kind.the-variants as K
 use Rattle.table_rows.specs.Rows.{rowFrom}
-use Rattle.measure.specs.Measured.{rowLines}
+use Rattle.write_measure.specs.Measured.{rowLines}
 use Rattle.write.proofs.Laying.{laid-same, Laying, laying, here-coded, here-ready, slots-room, slots-turn, left-ready, left-done}
 use borrow.Author.Needs.{needs}
 use Rattle.write.proofs.runs.write_code.Statement.{statement}

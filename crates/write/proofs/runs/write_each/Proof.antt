@@ -2,7 +2,7 @@ use mathlib.Core.Path.{_≡_}
 use native.Mathlib.Omega.{arith}
 use denote.Ref.{now}
 use Rattle.table_rows.specs.Rows.{rowWidth, rowFrom}
-use Rattle.measure.specs.Measured.{rowLines}
+use Rattle.write_measure.specs.Measured.{rowLines}
 use Rattle.write.proofs.Laying.{Laying, laying, done, ended, row-whole, row-here, row-ready, row-turn}
 use borrow.Author.Needs.{needs}
 use Rattle.write.proofs.runs.write_each.Statement.{statement}

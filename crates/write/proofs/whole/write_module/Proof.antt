@@ -12,11 +12,11 @@ use Rattle.format.specs.Writing.{Part, headerLine}
 use Rattle.bits.proofs.Signs.{kept}
 use Rattle.rows.specs.declared.Kind.the-variants as K
 use Rattle.rows.specs.declared.groups.Group.the-variants as G
-use Rattle.line_bytes.specs.Laid.{Ready}
-use Rattle.line_bytes.proofs.Chain.{Writing, writing, ready, ready-last, step, finish-last}
-use Rattle.measure.specs.Layout.{nameLines, rowsAt, groupsAt, moduleLines}
-use Rattle.tables.proofs.Told.{counts-told}
-use Rattle.measure.proofs.Placed.{Sections, sections}
+use Rattle.write_bytes.specs.Laid.{Ready}
+use Rattle.write_bytes.proofs.Chain.{Writing, writing, ready, ready-last, step, finish-last}
+use Rattle.write_measure.specs.Layout.{nameLines, rowsAt, groupsAt, moduleLines}
+use Rattle.table_check.proofs.Told.{counts-told}
+use Rattle.write_measure.proofs.Placed.{Sections, sections}
 use Rattle.write.specs.Wrote.{partsOf}
 use Rattle.write.proofs.Laying.{laid-same, eight, single}
 use Rattle.write.proofs.whole.write_module.Statement.{statement}

@@ -3,8 +3,8 @@ use mathlib.Core.List.{[], _∷_, _++_}
 use denote.Ref.{now}
 use Rattle.format.specs.Operands.{shown}
 use Rattle.format.specs.Writing.{ended}
-use Rattle.line_bytes.proofs.Chain.{Writing, writing, finish, raw-room, raw-step}
-use Rattle.measure.specs.Layout.{nameLines}
+use Rattle.write_bytes.proofs.Chain.{Writing, writing, finish, raw-room, raw-step}
+use Rattle.write_measure.specs.Layout.{nameLines}
 use Rattle.write.specs.Wrote.{partsOf}
 use borrow.Author.Needs.{needs}
 use Rattle.write.proofs.whole.write_name.Statement.{statement}

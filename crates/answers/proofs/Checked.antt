@@ -1,8 +1,0 @@
--- The check of the tables has one answer.
--- Assumes nothing.
-use Rattle.tables.proofs.Same.{check-same}
-use Rattle.tables.proofs.check.Reads as check
-use Rattle.answers.proofs.Once.{Once}
-
-pub check-once : Once check.Learnt (λ κs r v. r)
-check-once κs a r s v w p q = check-same _ _ _ r s p q

@@ -1,0 +1,17 @@
+use native.Mathlib.Omega.{arith}
+use lib.ListN.{length-set}
+use Rattle.law_format.proofs.Put.{put-two}
+use mir.Facts.{toZ-ofZ}
+use borrow.Author.Needs.{needs}
+use Rattle.load_store.proofs.put_two.Statement.{statement}
+use Rattle.load_store.proofs.put_two.Tie as tie
+
+slice-set-from-b : tie.Need-slice-set-from-b
+slice-set-from-b c = simp length-set (omega arith)
+
+returns : tie.Need-returns
+returns c = put-two _ _ _ _ (omega arith) (toZ-ofZ (c .fits .a)) (toZ-ofZ (c .fits .b))
+
+pub put-two-spec : {M : Type 1} → statement M
+put-two-spec =
+    tie.close (tie.spec (λ c. search needs) (λ c. search needs) (λ c. search needs) (λ c. search needs) slice-set-from-b (λ c. search needs) returns)
