@@ -1,6 +1,5 @@
 // What is wrong with the records of a section, in their order. The file was scanned: all of them can be read.
 use crate::records::Fault;
-use crate::records::below;
 use crate::records::check_export;
 use crate::records::check_own;
 use crate::records::optional;
@@ -14,6 +13,7 @@ use format::refusal::Refusal;
 use format::types::Cursor;
 use reader::NumberRead;
 use reader::read_operand;
+use values::ranges::below;
 ghost use mathlib.Core.Path.{_≡_};
 ghost use Prim.Native.Nat.{suc, _≤_, _<_, _^_};
 ghost use lib.ListN.{length};
