@@ -1,4 +1,6 @@
 // The boundary to other languages, declared for C in include/dis.h. Nothing is asked of the caller beyond what a slice is: a pointer to so many elements.
+#![tactic(auto)]
+
 ghost use Rattle.std.specs.Prelude.{◌≡◌};
 ghost use Rattle.format.specs.Walk as Walk;
 ghost use Rattle.abi.specs.Boundary as Spec;

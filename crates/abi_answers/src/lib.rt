@@ -1,4 +1,6 @@
 // What loading, writing and the walk answer, as numbers at the front of lent slices; and whether slices are long enough for them.
+#![tactic(auto)]
+
 ghost use Rattle.std.specs.Prelude.{◌≡◌, ◌≤◌, length};
 ghost use Rattle.format.specs.Put.{put};
 ghost use Rattle.abi_numbers.specs.Numbers.{module_width, state_width, answer_width};

@@ -1,4 +1,6 @@
 // Modules, states and answers as numbers at the front of a lent slice, for callers in other languages. What stands past them stays as lent.
+#![tactic(auto)]
+
 ghost use Rattle.std.specs.Prelude.{◌≡◌, [], ◌∷◌, ◌≤◌, length};
 ghost use Rattle.format.specs.Put.{put};
 ghost use Rattle.abi_numbers.specs.Numbers as Spec;

@@ -1,4 +1,6 @@
 // Numbers of more than one byte, by shifts and masks, and two's complement.
+#![tactic(auto)]
+
 ghost use Rattle.std.specs.Prelude.{◌≡◌, ◌+◌, ◌*◌, ◌%◌, ◌^◌, ◌<◌, ◌≤◌};
 ghost use Rattle.std.specs.Int.Signed.{mag};
 ghost use Rattle.bits.specs.Bits as Spec;
@@ -62,7 +64,7 @@ pub fn bits_of(half: u32, v: i32) -> u32
 }
 
 // A signed number as a count or a place, where it is one.
-#[derive(Drop)]
+#[derive(Clone, Copy)]
 pub enum Natural {
     Is(usize),
     Negative,

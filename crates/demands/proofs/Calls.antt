@@ -85,7 +85,7 @@ module _ {L S T : Type 0} {A R E : L → Type 0} {Contract : (κs : L) → A κs
   called : (Says : S → T → Type 0) → ((κs : L) (a : A κs) (r : R κs) (v : E κs) → Contract κs a r v → Says (handed κs a) (back κs r v))
       → {given : S} {found : T} → Call Contract handed back given found → Says given found
   called Says says {given} {found} c =
-      subst (λ x. Says x found) c.is-given (subst (Says (handed c.lifetimes c.arguments)) c.is_found (says c.lifetimes c.arguments c.answer c.exit c.holds))
+      subst (λ x. Says x found) c.is_given (subst (Says (handed c.lifetimes c.arguments)) c.is_found (says c.lifetimes c.arguments c.answer c.exit c.holds))
 
 module _ {file : List ℕ} {words left : List ℤ} {answer : LoadAnswer} where
   pub load_is : Load (file, words) (answer, left) → load_of file words ≡ (answer, left)

@@ -1,4 +1,6 @@
 // Says of each file that its arguments name whether it is a good module, and if not, why not.
+#![tactic(auto)]
+
 mod out;
 mod report;
 
@@ -11,21 +13,21 @@ use format::module::LoadAnswer;
 use libc::STDERR_FILENO;
 use load::load;
 
-#[derive(Drop)]
+#[derive(Clone, Copy)]
 enum Verdict {
     Good,
     Refused,
     Unread,
 }
 
-#[derive(Drop)]
+#[derive(Clone, Copy)]
 struct Told {
     out: Out,
     verdict: Verdict,
 }
 
 // How many files got each verdict, and how many words the next module is lent.
-#[derive(Drop)]
+#[derive(Clone, Copy)]
 struct Tally {
     good: usize,
     refused: usize,
@@ -128,7 +130,7 @@ fn with_verdict(t: Tally, told: Told) -> Tally {
 }
 
 // What an argument is: a path or, after words=, how many words the modules after it are lent.
-#[derive(Drop)]
+#[derive(Clone, Copy)]
 enum Asked {
     File,
     Words(usize),

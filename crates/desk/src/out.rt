@@ -5,7 +5,7 @@ use bits::magnitude;
 use libc::STDOUT_FILENO;
 use reasons::Text;
 
-#[derive(Drop)]
+#[derive(Clone, Copy)]
 pub struct Out {
     pub ok: bool,
 }

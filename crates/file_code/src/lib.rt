@@ -1,4 +1,6 @@
 // 2, code.
+#![tactic(auto)]
+
 pub mod plain;
 pub mod skip;
 
@@ -15,13 +17,13 @@ use reader::{ByteRead, NumberRead, read_byte, read_operand};
 use values::instruction::{address_mode, addressing_of, middle_mode};
 use values::opcode::is_opcode;
 
-#[derive(Drop)]
+#[derive(Clone, Copy)]
 pub enum OperandStep {
     Got { operand: Operand, next: Cursor },
     Refused(Refusal),
 }
 
-#[derive(Drop)]
+#[derive(Clone, Copy)]
 pub enum MiddleStep {
     Got {
         operand: MiddleOperand,
@@ -30,7 +32,7 @@ pub enum MiddleStep {
     Refused(Refusal),
 }
 
-#[derive(Drop)]
+#[derive(Clone, Copy)]
 pub enum InstructionRead {
     Got {
         instruction: Instruction,

@@ -1,4 +1,6 @@
 // 4, data: an item's count and offset, then its kind, then its value, which is passed over.
+#![tactic(auto)]
+
 pub mod skip;
 
 ghost use Rattle.std.specs.Prelude.{◌≡◌, ◌-◌, ◌/◌, ◌≤◌, ◌<◌, ◌^◌, length};
@@ -17,20 +19,20 @@ use format::types::{Cursor, Span};
 use reader::{ByteRead, EndRead, NumberRead, SpanRead, read_byte, read_operand, read_span};
 use values::module::{data_kind, shape_of};
 
-#[derive(Drop)]
+#[derive(Clone, Copy)]
 pub enum OffsetRead {
     Got { offset: i32, next: Cursor },
     Refused(Refusal),
 }
 
-#[derive(Drop)]
+#[derive(Clone, Copy)]
 pub enum ItemStep {
     Got { item: DataItem, next: Cursor },
     Refused(Refusal),
 }
 
 // An item, or the section's end.
-#[derive(Drop)]
+#[derive(Clone, Copy)]
 pub enum ItemRead {
     Got { item: DataItem, next: Cursor },
     End { next: Cursor },

@@ -14,7 +14,7 @@ use reader::{ByteRead, EndRead, read_byte};
 use values::module::data_kind;
 
 // Past an item, or past the section's end.
-#[derive(Drop)]
+#[derive(Clone, Copy)]
 pub enum ItemEnd {
     Item { next: Cursor },
     End { next: Cursor },

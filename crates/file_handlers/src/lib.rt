@@ -1,4 +1,6 @@
 // 8, a handler's own record and its cases.
+#![tactic(auto)]
+
 ghost use Rattle.std.specs.Prelude.{◌≡◌, ◌≤◌, length};
 ghost use Rattle.law_format.specs.Loops.{end_of};
 ghost use Rattle.format.specs.Records.{size_limit};
@@ -14,13 +16,13 @@ use format::refusal::Refusal;
 use format::types::Cursor;
 use reader::{EndRead, NumberRead, read_operand};
 
-#[derive(Drop)]
+#[derive(Clone, Copy)]
 pub enum CaseRead {
     Got { case: ExceptionCase, next: Cursor },
     Refused(Refusal),
 }
 
-#[derive(Drop)]
+#[derive(Clone, Copy)]
 pub enum HeadRead {
     Got { handler: Handler, next: Cursor },
     Refused(Refusal),

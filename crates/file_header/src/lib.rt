@@ -1,4 +1,6 @@
 // 1, the header.
+#![tactic(auto)]
+
 ghost use Rattle.std.specs.Prelude.{◌≡◌, ◌≤◌, length};
 ghost use Rattle.format.specs.Records.{size_limit};
 ghost use Rattle.format.specs.Sections.{signature_for, header_of, header_at};
@@ -11,7 +13,7 @@ use format::refusal::Refusal;
 use format::types::{Cursor, FourPlaced, Span};
 use reader::{NumberRead, read_operand};
 
-#[derive(Drop)]
+#[derive(Clone, Copy)]
 pub enum HeaderRead {
     Got { header: PlacedHeader, next: Cursor },
     Refused(Refusal),

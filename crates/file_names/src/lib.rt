@@ -1,4 +1,6 @@
 // 6 and 7: exports, and the functions of an import module.
+#![tactic(auto)]
+
 ghost use Rattle.std.specs.Prelude.{◌≡◌, ◌≤◌, length};
 ghost use Rattle.law_format.specs.Loops.{end_of};
 ghost use Rattle.format.specs.Records.{size_limit};
@@ -13,13 +15,13 @@ use format::refusal::Refusal;
 use format::types::Cursor;
 use reader::{EndRead, NumberRead, SpanRead, read_name, read_operand, read_word};
 
-#[derive(Drop)]
+#[derive(Clone, Copy)]
 pub enum ExportRead {
     Got { export: ExportEntry, next: Cursor },
     Refused(Refusal),
 }
 
-#[derive(Drop)]
+#[derive(Clone, Copy)]
 pub enum FunctionRead {
     Got { function: ImportEntry, next: Cursor },
     Refused(Refusal),

@@ -1,4 +1,6 @@
 // Counts, runs of operands, and counted spans: the pieces that records are made of.
+#![tactic(auto)]
+
 ghost use Rattle.std.specs.Prelude.{◌≡◌, ◌≤◌, ◌<◌, ◌^◌, length};
 ghost use Rattle.format.specs.Operands.{span_of};
 ghost use Rattle.format.specs.Records.{size_limit};
@@ -10,26 +12,26 @@ use format::refusal::Refusal;
 use format::types::{Cursor, FourPlaced, Placed, Span};
 use reader::{NumberRead, SpanRead, read_operand, read_span};
 
-#[derive(Drop)]
+#[derive(Clone, Copy)]
 pub enum CountRead {
     Got { count: usize, next: Cursor },
     Refused(Refusal),
 }
 
-#[derive(Drop)]
+#[derive(Clone, Copy)]
 pub enum PlacedRead {
     Got { placed: Placed, next: Cursor },
     Refused(Refusal),
 }
 
-#[derive(Drop)]
+#[derive(Clone, Copy)]
 pub enum FourRead {
     Got { four: FourPlaced, next: Cursor },
     Refused(Refusal),
 }
 
 // A span, read with its refusal.
-#[derive(Drop)]
+#[derive(Clone, Copy)]
 pub enum SpanStep {
     Got { span: Span, next: Cursor },
     Refused(Refusal),

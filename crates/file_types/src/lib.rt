@@ -1,4 +1,6 @@
 // 3, types.
+#![tactic(auto)]
+
 ghost use Rattle.std.specs.Prelude.{◌≡◌, ◌≤◌, length};
 ghost use Rattle.law_format.specs.Loops.{end_of};
 ghost use Rattle.format.specs.Records.{size_limit};
@@ -12,7 +14,7 @@ use format::types::{Cursor, TypeDescriptor};
 use reader::{EndRead, NumberRead, read_operand};
 use spans::count_pointers;
 
-#[derive(Drop)]
+#[derive(Clone, Copy)]
 pub enum TypeRead {
     Got {
         descriptor: TypeDescriptor,

@@ -1,7 +1,8 @@
 // A file's bytes, into a lent slice.
+#![tactic(auto)]
 
 // How many of the lent bytes were filled, or why the file was not read.
-#[derive(Drop)]
+#[derive(Clone, Copy)]
 pub enum Input {
     Read(usize),
     Failed(i32),

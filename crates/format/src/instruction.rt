@@ -1,6 +1,6 @@
 // instruction.rs: addressing modes, operands and instructions.
 
-#[derive(Drop)]
+#[derive(Clone, Copy)]
 pub enum AddressMode {
     OffsetIndirectMp,
     OffsetIndirectFp,
@@ -10,7 +10,7 @@ pub enum AddressMode {
     OffsetDoubleIndirectFp,
 }
 
-#[derive(Drop)]
+#[derive(Clone, Copy)]
 pub enum MiddleMode {
     None,
     SmallImmediate,
@@ -18,20 +18,20 @@ pub enum MiddleMode {
     SmallOffsetMp,
 }
 
-#[derive(Drop)]
+#[derive(Clone, Copy)]
 pub struct Operand {
     pub mode: AddressMode,
     pub register1: i32,
     pub register2: i32,
 }
 
-#[derive(Drop)]
+#[derive(Clone, Copy)]
 pub struct MiddleOperand {
     pub mode: MiddleMode,
     pub register1: i32,
 }
 
-#[derive(Drop)]
+#[derive(Clone, Copy)]
 pub struct Instruction {
     pub opcode: u8,
     pub source: Operand,
@@ -40,20 +40,20 @@ pub struct Instruction {
 }
 
 // The mode that a number says, where it says one.
-#[derive(Drop)]
+#[derive(Clone, Copy)]
 pub enum MaybeAddressMode {
     Is(AddressMode),
     Reserved,
 }
 
-#[derive(Drop)]
+#[derive(Clone, Copy)]
 pub enum MaybeMiddleMode {
     Is(MiddleMode),
     Reserved,
 }
 
 // The addressing byte, taken apart.
-#[derive(Drop)]
+#[derive(Clone, Copy)]
 pub struct Addressing {
     pub middle: u8,
     pub source: u8,

@@ -28,7 +28,7 @@ pub const HANDLER_WIDTH: usize = 5;
 
 pub const CASE_WIDTH: usize = 3;
 
-#[derive(Drop)]
+#[derive(Clone, Copy)]
 pub struct Header {
     pub magic: i32,
     pub signature: Span,
@@ -43,7 +43,7 @@ pub struct Header {
 }
 
 // The header, with the three sizes that are refused only when their own section begins.
-#[derive(Drop)]
+#[derive(Clone, Copy)]
 pub struct PlacedHeader {
     pub header: Header,
     pub code: Placed,
@@ -52,7 +52,7 @@ pub struct PlacedHeader {
 }
 
 // The runtime flags that say something here.
-#[derive(Drop)]
+#[derive(Clone, Copy)]
 pub enum Flag {
     MustCompile,
     DontCompile,
@@ -60,7 +60,7 @@ pub enum Flag {
     HasImport,
 }
 
-#[derive(Drop)]
+#[derive(Clone, Copy)]
 pub enum DataKind {
     Bytes,
     Words,
@@ -73,14 +73,14 @@ pub enum DataKind {
 }
 
 // The kind that a number says, where it says one.
-#[derive(Drop)]
+#[derive(Clone, Copy)]
 pub enum MaybeDataKind {
     Is(DataKind),
     Unknown,
 }
 
 // What the value of a kind is: counted bytes, counted elements of so many words, one thing of so many words, or nothing.
-#[derive(Drop)]
+#[derive(Clone, Copy)]
 pub enum Shape {
     Bytes,
     Words(usize),
@@ -88,7 +88,7 @@ pub enum Shape {
     Nothing,
 }
 
-#[derive(Drop)]
+#[derive(Clone, Copy)]
 pub struct DataItem {
     pub kind: DataKind,
     pub offset: i32,
@@ -96,7 +96,7 @@ pub struct DataItem {
     pub value: Span,
 }
 
-#[derive(Drop)]
+#[derive(Clone, Copy)]
 pub struct ExportEntry {
     pub pc: i32,
     pub frame: i32,
@@ -104,13 +104,13 @@ pub struct ExportEntry {
     pub name: Span,
 }
 
-#[derive(Drop)]
+#[derive(Clone, Copy)]
 pub struct ImportEntry {
     pub signature: i32,
     pub name: Span,
 }
 
-#[derive(Drop)]
+#[derive(Clone, Copy)]
 pub struct Handler {
     pub offset: i32,
     pub begin: i32,
@@ -119,14 +119,14 @@ pub struct Handler {
     pub cases: i32,
 }
 
-#[derive(Drop)]
+#[derive(Clone, Copy)]
 pub struct ExceptionCase {
     pub name: Span,
     pub pc: i32,
 }
 
 // What comes beside the words.
-#[derive(Drop)]
+#[derive(Clone, Copy)]
 pub struct Module {
     pub header: Header,
     pub name: Span,
@@ -135,7 +135,7 @@ pub struct Module {
     pub handlers: i32,
 }
 
-#[derive(Drop)]
+#[derive(Clone, Copy)]
 pub enum LoadAnswer {
     Loaded {
         module: Module,
@@ -145,7 +145,7 @@ pub enum LoadAnswer {
     Refused(Refusal),
 }
 
-#[derive(Drop)]
+#[derive(Clone, Copy)]
 pub enum WriteAnswer {
     Written { used: usize },
     Refused(Refusal),

@@ -2,7 +2,7 @@
 ghost use Rattle.std.specs.Prelude.{◌≡◌, pos};
 ghost use Rattle.format.specs.Refusals as Spec;
 
-#[derive(Drop)]
+#[derive(Clone, Copy)]
 pub enum Refusal {
     TooLarge,
     Ended {
@@ -99,7 +99,7 @@ pub enum Refusal {
 }
 
 // What every refusal gives.
-#[derive(Drop)]
+#[derive(Clone, Copy)]
 pub struct Numbered {
     pub number: u8,
     pub section: u8,

@@ -3,7 +3,7 @@ ghost use Rattle.std.specs.Prelude.{◌≡◌, ◌+◌, ◌^◌, ◌<◌};
 ghost use Rattle.format.specs.Reading as Spec;
 
 // A place of the file, by value. Cursors are made here only.
-#[derive(Drop)]
+#[derive(Clone, Copy)]
 pub struct Cursor {
     pub at: usize,
 }
@@ -26,21 +26,21 @@ impl Cursor {
 }
 
 // A part of the file. Both numbers are signed, as the table words are: any two may be handed in.
-#[derive(Drop)]
+#[derive(Clone, Copy)]
 pub struct Span {
     pub start: i32,
     pub len: i32,
 }
 
 // An operand's value, and where the operand starts.
-#[derive(Drop)]
+#[derive(Clone, Copy)]
 pub struct Placed {
     pub value: i32,
     pub place: usize,
 }
 
 // Four operands that follow one another.
-#[derive(Drop)]
+#[derive(Clone, Copy)]
 pub struct FourPlaced {
     pub first: Placed,
     pub second: Placed,
@@ -48,7 +48,7 @@ pub struct FourPlaced {
     pub fourth: Placed,
 }
 
-#[derive(Drop)]
+#[derive(Clone, Copy)]
 pub struct TypeDescriptor {
     pub id: i32,
     pub size: i32,

@@ -2,14 +2,14 @@
 use crate::refusal::Refusal;
 
 // A pc's frame type: none, the default of a module without types, or a type by its number.
-#[derive(Drop)]
+#[derive(Clone, Copy)]
 pub enum Frame {
     None,
     Default,
     Type(i32),
 }
 
-#[derive(Drop)]
+#[derive(Clone, Copy)]
 pub enum Stop {
     NoEntry,
     NoCode,
@@ -18,7 +18,7 @@ pub enum Stop {
     NoCatchAll,
 }
 
-#[derive(Drop)]
+#[derive(Clone, Copy)]
 pub enum State {
     Idle,
     At { pc: i32, frame: Frame },
@@ -27,7 +27,7 @@ pub enum State {
 }
 
 // A refusal hands the state back.
-#[derive(Drop)]
+#[derive(Clone, Copy)]
 pub enum WalkAnswer {
     Walked(State),
     Refused { why: Refusal, state: State },

@@ -2,7 +2,7 @@
 -- Assumes nothing.
 use Prim.Native.Nat.{ℕ, suc, ◌+◌, ◌-◌, ◌*◌, ◌/◌, ◌^◌, ◌≤◌, ◌<◌}
 use mathlib.Core.Path.{◌≡◌, refl, sym, ap, ◌∙◌}
-use mathlib.Core.Bool.{Bool, true, false, cond, ◌&&◌, ◌||◌, or_true}
+use mathlib.Core.Bool.{Bool, true, false, cond, ◌&&◌, ◌||◌, or-true}
 use mathlib.Core.List.{List, [], ◌∷◌}
 use mathlib.Core.Option.{Option, none, some}
 use native.Mathlib.Omega.{arith}
@@ -384,7 +384,7 @@ module _ (file : List ℕ) where
       → Gives (Flagged file Ok flag flags) (cond t ((count_in file section >>= many one) >>= (λ xs. closing file section >> give xs)) (give []))
   flagged_by true flag flags section on h =
       then_gives (counting section h) λ xs known. then_gives (passed (closing_moves file section)) λ _ _.
-      give_gives xs (record { flagged = rw on (or_true (eqb (length xs) 0)); count = known.0; each = known.1 })
+      give_gives xs (record { flagged = rw on (or-true (eqb (length xs) 0)); count = known.0; each = known.1 })
   flagged_by false flag flags section off h = give_gives [] (record { flagged = refl; count = zero_narrow; each = tt })
 
   flagged : {A : Type 0} {Ok : A → Type 0} (flag : ℕ) (flags : ℤ) (section : ℕ) {one : Reads Cursor A} → Gives Ok one

@@ -96,7 +96,7 @@ module _ (file : List ℕ) (b : Bytes file) (size : length file ≤ size_limit) 
   type_narrow t g = (g.id b, (g.size b, (omega (arith, shown_most file t.map), (tt, tt))))
 
   item_narrow : (d : DataItem) → ItemGood file d → Narrow (item_line (item_shown file d))
-  item_narrow d g = all_append NarrowPart (code_parts (kind_number d.kind) d.count) _ (code_narrow (kind_number d.kind) d.count (g.count-narrow b)) (g.offset-narrow b, (tt, tt))
+  item_narrow d g = all_append NarrowPart (code_parts (kind_number d.kind) d.count) _ (code_narrow (kind_number d.kind) d.count (g.count_narrow b)) (g.offset_narrow b, (tt, tt))
 
   export_narrow : (e : ExportEntry) → ExportGood file e → Narrow (export_line (export_shown file e))
   export_narrow e g = (g.pc b, (g.frame b, (tt, (tt, tt))))

@@ -72,9 +72,9 @@ module _ {file : List ℕ} {words now : List ℤ} {m : Module} {used needed : �
       let s = records_said (λ v. Unit {0}) m file now (λ i. tt) (loaded_records a) in
       let good = loaded_good a in
       record {
-        code_size_lem = s.code-size;
-        type_size_lem = s.type-size;
-        export_size_lem = s.export-size;
+        code_size_lem = s.code_size_lem;
+        type_size_lem = s.type_size_lem;
+        export_size_lem = s.export_size_lem;
         name = s.name;
         code = s.code;
         items = s.items;

@@ -99,7 +99,7 @@ module _ (file : List ℕ) (r : Records) where
         size = r.header.data_size;
         pc = r.header.entry_pc;
         frame = r.header.entry_type;
-        numbers = rw (said.code-size, said.type-size, said.export-size, length-map r.types (type_shown file), length-map r.exports (export_shown file));
+        numbers = rw (said.code_size_lem, said.type_size_lem, said.export_size_lem, length-map r.types (type_shown file), length-map r.exports (export_shown file));
         code = said.code;
         items = all_map ItemSound (item_shown file) (λ x h. h) r.items said.items;
         name = said.name;

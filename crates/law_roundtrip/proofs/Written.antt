@@ -78,10 +78,10 @@ module _ (file : List ℕ) (m : Content) (ok : Sound m) where
         (all_both (λ x. Narrow (export_line x)) ExportSound m.exports narrow.exports ok.exports))
 
     imports_here : Back file (map (map (function_shown file))) (under_flag file 64 m.flags 7 (import_at file)) m.imports (flatten line_bytes (imports_part m))
-    imports_here = under_back import_lines (import_back file) 64 7 m.flags m.imports ok.imports ok.no-imports narrow.imports
+    imports_here = under_back import_lines (import_back file) 64 7 m.flags m.imports ok.imports ok.no_imports narrow.imports
 
     handlers_here : Back file (map (handler_shown file)) (under_flag file 32 m.flags 8 (handler_at file)) m.handlers (flatten line_bytes (handlers_part m))
-    handlers_here = under_back handler_lines (handler_back file) 32 8 m.flags m.handlers ok.handlers ok.no-handlers narrow.handlers
+    handlers_here = under_back handler_lines (handler_back file) 32 8 m.flags m.handlers ok.handlers ok.no_handlers narrow.handlers
 
     -- ---- the whole
 

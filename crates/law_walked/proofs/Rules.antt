@@ -3,7 +3,7 @@
 use Prim.Native.Nat.{ℕ, suc, ◌≤◌, ◌<◌}
 use mathlib.Core.Path.{◌≡◌, refl, ap, ◌∙◌}
 use mathlib.Core.Logic.{◌⊎◌, inl, inr}
-use mathlib.Core.Bool.{Bool, true, false, or_true}
+use mathlib.Core.Bool.{Bool, true, false, or-true}
 use mathlib.Core.List.{List, [], ◌∷◌, ◌++◌}
 use mathlib.Core.Option.{Option, none, some}
 use native.Mathlib.Omega.{arith}
@@ -36,7 +36,7 @@ nameless_takes raised = refl
 
 pub named_takes : (name : List ℕ) → takes name name ≡ true
 unfolding takes
-named_takes name = rw (bytes_same name) (or_true (eqb (length name) 0))
+named_takes name = rw (bytes_same name) (or-true (eqb (length name) 0))
 
 -- and no others
 pub takes_only : (name raised : List ℕ) → takes name raised ≡ true → (name ≡ []) ⊎ (name ≡ raised)

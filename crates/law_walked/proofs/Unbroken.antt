@@ -3,7 +3,7 @@
 -- Assumes nothing.
 use Prim.Native.Nat.{ℕ, zero, suc}
 use mathlib.Core.Path.{◌≡◌, refl, ap, ◌∙◌}
-use mathlib.Core.Bool.{Bool, true, false, cond, ◌&&◌, ◌||◌, or_true, or-false}
+use mathlib.Core.Bool.{Bool, true, false, cond, ◌&&◌, ◌||◌, or-true, or-false}
 use mathlib.Core.List.{List, [], ◌∷◌, ◌++◌}
 use mathlib.Core.Option.{Option, none}
 use borrow.Author.Tests.{ltb-true, eqb-true}
@@ -69,7 +69,7 @@ module _ (code_size_of type_size_of : ℕ) where
 
   entry_frame : (t : ℤ) → (eqb type_size_of 0 || minus_one t || below type_size_of t) ≡ true → (eqb type_size_of 0 || lt_z t (pos type_size_of)) ≡ true
   entry_frame (pos t) e = rw (or-false (eqb type_size_of 0)) at e
-  entry_frame (negsuc t) e = or_true (eqb type_size_of 0)
+  entry_frame (negsuc t) e = or-true (eqb type_size_of 0)
 
   entered_there : (h : Header) → header_fault code_size_of type_size_of h ≡ none → There (entered code_size_of type_size_of h)
   unfolding header_fault entered
@@ -122,7 +122,7 @@ module _ (code_size_of type_size_of : ℕ) where
       cases_there_lem t had k j (c ∷ d ∷ cs) ends e =
           let f = then_none (unless (below code_size_of c.pc) _) _ e in
           let inside : below code_size_of c.pc ≡ true = unless_none _ _ f.0 in
-          one_there (takes (shown file c.name) raised) _ _ (λ _. caught_there t (eqb (suc (length cs)) 0) c.pc had (rw inside (or_true (eqb (suc (length cs)) 0 && minus_one c.pc))))
+          one_there (takes (shown file c.name) raised) _ _ (λ _. caught_there t (eqb (suc (length cs)) 0) c.pc had (rw inside (or-true (eqb (suc (length cs)) 0 && minus_one c.pc))))
           (λ _. cases_there_lem t had k (suc j) (d ∷ cs) ends f.1)
 
       handlers_there : (pc : ℤ) (hs : List Handled) → All (λ h. There (first_case code_size_of type_size_of file raised h.0.descriptor h.1)) hs

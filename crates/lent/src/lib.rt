@@ -1,5 +1,7 @@
 // reader.rs: the lent file and a place of it in one struct. Each method takes it apart and calls the function over the
 // slice and the cursor, which has the work and the proof of it.
+#![tactic(auto)]
+
 ghost use Rattle.std.specs.Prelude.{◌≡◌, ◌-◌, length};
 ghost use Rattle.format.specs.Reading.{front};
 ghost use Rattle.format.specs.Operands.{byte_at, operand_at, word_at, name_at, span_at};
@@ -10,7 +12,7 @@ use reader::{
     ByteRead, NumberRead, SpanRead, read_byte, read_name, read_operand, read_span, read_word,
 };
 
-#[derive(Drop)]
+#[derive(Clone, Copy)]
 pub struct Reader<'a> {
     pub file: &'a [u8],
     pub at: Cursor,

@@ -1,4 +1,6 @@
 // load: a file's module, with its table words in the lent run; or one refusal, and the run as it was lent.
+#![tactic(auto)]
+
 mod late;
 mod tables;
 

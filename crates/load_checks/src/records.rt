@@ -10,7 +10,7 @@ use format::refusal::Refusal;
 use values::module::contains;
 use values::ranges::below;
 
-#[derive(Drop)]
+#[derive(Clone, Copy)]
 pub enum Fault {
     Found(Refusal),
     Nothing,

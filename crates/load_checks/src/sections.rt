@@ -16,7 +16,7 @@ use reader::{NumberRead, read_operand};
 use values::ranges::below;
 
 // A fault, or where the records end.
-#[derive(Drop)]
+#[derive(Clone, Copy)]
 pub enum Checked {
     Found(Refusal),
     Passed { next: Cursor },

@@ -2,7 +2,7 @@
 use format::types::Cursor;
 
 // Where the reading stopped, and the place after the words.
-#[derive(Drop)]
+#[derive(Clone, Copy)]
 pub struct Filled {
     pub next: Cursor,
     pub place: usize,

@@ -21,7 +21,7 @@ use rows::Kind;
 use rows::groups::{Group, flag_of, section_of};
 
 // How many records a section has, and how many table words they need.
-#[derive(Drop)]
+#[derive(Clone, Copy)]
 pub enum SectionRead {
     Got {
         count: usize,

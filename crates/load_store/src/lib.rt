@@ -1,4 +1,6 @@
 // The table words of each record, stored at a place of the lent run. Each answers the place after them.
+#![tactic(auto)]
+
 ghost use Rattle.std.specs.Prelude.{◌≡◌, [], ◌∷◌, ◌+◌, ◌≤◌, length};
 ghost use Rattle.format.specs.Put.{put};
 ghost use Rattle.format.specs.Words as Spec;

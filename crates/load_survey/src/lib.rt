@@ -1,4 +1,6 @@
 // The first pass over the whole file, in three parts: where each section stands, how many records it has, how many words they need.
+#![tactic(auto)]
+
 ghost use Rattle.std.specs.Prelude.{◌≡◌, ◌≤◌, length};
 ghost use Rattle.law_format.specs.Loops.{tally};
 ghost use Rattle.format.specs.Records.{size_limit};
@@ -20,7 +22,7 @@ use rows::Kind;
 use rows::groups::Group;
 
 // 1 to 3: header, code, types.
-#[derive(Drop)]
+#[derive(Clone, Copy)]
 pub struct Front {
     pub header: PlacedHeader,
     pub code: usize,
@@ -30,14 +32,14 @@ pub struct Front {
     pub at_items: Cursor,
 }
 
-#[derive(Drop)]
+#[derive(Clone, Copy)]
 pub enum FrontRead {
     Got(Front),
     Refused(Refusal),
 }
 
 // 4 to 6: data, the module's name, exports.
-#[derive(Drop)]
+#[derive(Clone, Copy)]
 pub struct Middle {
     pub items: usize,
     pub name: Span,
@@ -46,14 +48,14 @@ pub struct Middle {
     pub at_imports: Cursor,
 }
 
-#[derive(Drop)]
+#[derive(Clone, Copy)]
 pub enum MiddleRead {
     Got(Middle),
     Refused(Refusal),
 }
 
 // 7 and 8: imports, handlers.
-#[derive(Drop)]
+#[derive(Clone, Copy)]
 pub struct Back {
     pub imports: usize,
     pub import_words: usize,
@@ -63,7 +65,7 @@ pub struct Back {
     pub end: Cursor,
 }
 
-#[derive(Drop)]
+#[derive(Clone, Copy)]
 pub enum BackRead {
     Got(Back),
     Refused(Refusal),

@@ -1,4 +1,6 @@
 // reader.rs: a byte, an operand, a word, a name or a span at a cursor of the lent file.
+#![tactic(auto)]
+
 ghost use Rattle.std.specs.Prelude.{◌≡◌};
 ghost use Rattle.format.specs.Operands.{byte_at, operand_at, word_at, name_at, span_at};
 ghost use Rattle.reader.specs.View.{byte_read, number_read, span_read};
@@ -7,21 +9,21 @@ use bits::{be16, be32, signed};
 use format::refusal::Refusal;
 use format::types::Cursor;
 
-#[derive(Drop)]
+#[derive(Clone, Copy)]
 pub enum ByteRead {
     Got { value: u8, next: Cursor },
     Short,
 }
 
 // An operand or a word.
-#[derive(Drop)]
+#[derive(Clone, Copy)]
 pub enum NumberRead {
     Got { value: i32, next: Cursor },
     Short,
 }
 
 // A name without its zero byte, or a counted span.
-#[derive(Drop)]
+#[derive(Clone, Copy)]
 pub enum SpanRead {
     Got {
         start: usize,
@@ -32,7 +34,7 @@ pub enum SpanRead {
 }
 
 // Where what is passed over ends.
-#[derive(Drop)]
+#[derive(Clone, Copy)]
 pub enum EndRead {
     Done { next: Cursor },
     Refused(Refusal),

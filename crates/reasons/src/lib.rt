@@ -1,12 +1,14 @@
 // Plain words for the four numbers of a refusal: what its number says, what its place and its detail are, and the name of
 // a section. The texts stand in rows of one width, filled up with spaces.
+#![tactic(auto)]
+
 ghost use Rattle.std.specs.Prelude.{◌≡◌, cond, ◌+◌, ◌*◌, ◌≤◌, ltb, length, take, drop};
 ghost use Rattle.reasons.specs.Texts.{said, trimmed, told, reasons, places, details, sections};
 
 use write_pieces::put_bytes;
 
 // A text, in the first len bytes.
-#[derive(Drop)]
+#[derive(Clone, Copy)]
 pub struct Text {
     pub bytes: [u8; 72],
     pub len: usize,

@@ -5,7 +5,7 @@ ghost use Rattle.rows.specs.Groups.{section_of, flag_of};
 use format::module::Flag;
 use values::module::contains;
 
-#[derive(Drop)]
+#[derive(Clone, Copy)]
 pub enum Group {
     Imports,
     Handlers,

@@ -56,7 +56,7 @@ fn lend_numbers(lent: Lent, listed: &[u8], numbers: &mut [i32]) -> Ran {
 
 // ---- a case over tables, changed for it alone
 
-#[derive(Drop)]
+#[derive(Clone, Copy)]
 enum Operation {
     Write,
     Walk(Event),

@@ -1,5 +1,7 @@
 // Runs the lists of cases that its arguments name: each case's operation, through the boundary that C has, and whether its answer and the memory that it leaves
 // are as the line says. README.md beside src/ has the form of a list.
+#![tactic(auto)]
+
 mod lines;
 mod memory;
 mod operations;
@@ -19,7 +21,7 @@ use bits::magnitude;
 use files::{Input, read_file};
 
 // How many cases came out as listed, done or refused, and how many lines did not.
-#[derive(Drop)]
+#[derive(Clone, Copy)]
 struct Tally {
     line: usize,
     done: usize,

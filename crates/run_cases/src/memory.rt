@@ -12,7 +12,7 @@ pub const LENT: i32 = 7;
 pub const LENT_BYTE: u8 = 7;
 
 // How many bytes of the file and how many words are lent.
-#[derive(Drop)]
+#[derive(Clone, Copy)]
 pub struct Lent {
     pub file: usize,
     pub words: usize,

@@ -9,7 +9,7 @@ use abi::{dis_entry, dis_export, dis_load, dis_next, dis_raise, dis_write};
 use abi_numbers::{MODULE_WIDTH, STATE_WIDTH};
 
 // What a line comes to.
-#[derive(Drop)]
+#[derive(Clone, Copy)]
 pub enum Verdict {
     // It lends something, or is empty.
     NoCase,
@@ -128,7 +128,7 @@ fn judge_load(line: &[u8], words: &[i32], module: &[i32], answer: &[i64; 4]) -> 
     done(answer)
 }
 
-#[derive(Drop)]
+#[derive(Clone, Copy)]
 pub struct Ran {
     pub verdict: Verdict,
     pub lent: Lent,
@@ -191,7 +191,7 @@ pub fn run_write(line: &[u8], module: &[i32], file: &[u8], words: &[i32]) -> Ver
 
 // ---- `entry | CHANGES | ANSWER | STATE`, `export NUMBER | ..`, `next | ..`, `raise NAME | ..`
 
-#[derive(Drop)]
+#[derive(Clone, Copy)]
 pub enum Event {
     Entry,
     Export,

@@ -1,6 +1,6 @@
 // A number of an answer, apart from its sign.
 
-#[derive(Drop)]
+#[derive(Clone, Copy)]
 pub struct Signed {
     pub negative: bool,
     pub size: usize,

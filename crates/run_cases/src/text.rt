@@ -119,7 +119,7 @@ pub fn number_in(list: &[u8], word: &[u8]) -> usize {
 
 // ---- numbers
 
-#[derive(Drop)]
+#[derive(Clone, Copy)]
 pub enum Count {
     Is(usize),
     Not,
@@ -149,7 +149,7 @@ pub fn count_of(text: &[u8]) -> Count {
     Count::Is(n)
 }
 
-#[derive(Drop)]
+#[derive(Clone, Copy)]
 pub enum Number {
     Is { negative: bool, size: usize },
     Not,
@@ -168,7 +168,7 @@ pub fn number_of(token: &[u8]) -> Number {
     Number::Is { negative, size }
 }
 
-#[derive(Drop)]
+#[derive(Clone, Copy)]
 pub enum Word {
     Is(i32),
     Not,
@@ -224,7 +224,7 @@ pub fn words_into(run: &mut [i32], field: &[u8]) -> Count {
     Count::Is(count)
 }
 
-#[derive(Drop)]
+#[derive(Clone, Copy)]
 enum Digit {
     Is(u8),
     Not,

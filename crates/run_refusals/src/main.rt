@@ -1,4 +1,6 @@
 // Writes the plain words of every refusal, and the sections' names: the two tables of docs/REFUSALS.md.
+#![tactic(auto)]
+
 ghost use Rattle.std.specs.Prelude.{◌≤◌, length};
 
 use libc::STDOUT_FILENO;

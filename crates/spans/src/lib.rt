@@ -1,4 +1,6 @@
 // The part of the lent file that a span says, and the ones of a map.
+#![tactic(auto)]
+
 ghost use Rattle.std.specs.Prelude.{◌≡◌, ◌+◌, ◌≤◌, ◌<◌, ◌^◌, length};
 ghost use Rattle.format.specs.Operands.{span_of, shown};
 ghost use Rattle.format.specs.Records.{ones_of};

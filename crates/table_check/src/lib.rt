@@ -1,4 +1,6 @@
 // The check of lent tables; any module, file and words may be handed in. Refusal 1, then 22: what lies outside the words comes first, then the records in file order.
+#![tactic(auto)]
+
 ghost use Rattle.std.specs.Prelude.{◌≡◌};
 ghost use Rattle.format.specs.WellFormed.{magic_right};
 ghost use Rattle.table_check.specs.Laid.{outside_right, three_of, some_three, counts_of, some_counts, FrontIs, FrontSays, PlacesSays, CheckSays};
@@ -14,7 +16,7 @@ use table_pieces::{is_name, is_span, same_span, same_word};
 use table_rows::{EndFrom, check_rows};
 
 // How many records there are of each kind.
-#[derive(Drop)]
+#[derive(Clone, Copy)]
 pub struct Counts {
     pub code: usize,
     pub types: usize,
@@ -25,7 +27,7 @@ pub struct Counts {
 }
 
 // The words at which each section begins, and where the last ends. The code begins at word 0.
-#[derive(Drop)]
+#[derive(Clone, Copy)]
 pub struct Places {
     pub counts: Counts,
     pub at_types: usize,
@@ -36,13 +38,13 @@ pub struct Places {
     pub end: usize,
 }
 
-#[derive(Drop)]
+#[derive(Clone, Copy)]
 pub enum Checked {
     Good(Places),
     Refused(Refusal),
 }
 
-#[derive(Drop)]
+#[derive(Clone, Copy)]
 enum ThreeFrom {
     Got {
         first: usize,
@@ -52,26 +54,26 @@ enum ThreeFrom {
     Bad,
 }
 
-#[derive(Drop)]
+#[derive(Clone, Copy)]
 enum CountsFrom {
     Got(Counts),
     Bad,
 }
 
-#[derive(Drop)]
+#[derive(Clone, Copy)]
 struct Front {
     at_types: usize,
     at_items: usize,
     at_exports: usize,
 }
 
-#[derive(Drop)]
+#[derive(Clone, Copy)]
 enum FrontFrom {
     Got(Front),
     Bad { place: usize },
 }
 
-#[derive(Drop)]
+#[derive(Clone, Copy)]
 enum PlacesFrom {
     Got(Places),
     Bad { place: usize },

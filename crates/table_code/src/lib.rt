@@ -1,4 +1,6 @@
 // 2: an instruction of the table words. Opcode and modes are in range, and unused registers are 0.
+#![tactic(auto)]
+
 ghost use Rattle.std.specs.Prelude.{◌≡◌, ◌&&◌, ◌+◌, ◌≤◌, length};
 ghost use Rattle.law_format.specs.Loops.{end_of};
 ghost use Rattle.format.specs.Words.{instruction_width};
@@ -14,19 +16,19 @@ use table_pieces::{byte_of, has_room, same_word};
 use values::instruction::{address_mode, middle_mode};
 use values::opcode::is_opcode;
 
-#[derive(Drop)]
+#[derive(Clone, Copy)]
 pub enum InstructionFrom {
     Got(Instruction),
     Bad,
 }
 
-#[derive(Drop)]
+#[derive(Clone, Copy)]
 enum OperandFrom {
     Got(Operand),
     Bad,
 }
 
-#[derive(Drop)]
+#[derive(Clone, Copy)]
 enum MiddleFrom {
     Got(MiddleOperand),
     Bad,

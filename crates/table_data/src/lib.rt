@@ -1,4 +1,6 @@
 // 4: a data item of the table words. The kind is in range, what a kind fixes is as it fixes it, and the value's length is right for kind and count.
+#![tactic(auto)]
+
 ghost use Rattle.std.specs.Prelude.{◌≡◌, ◌+◌, ◌≤◌, ◌<◌, ◌^◌, length};
 ghost use Rattle.format.specs.Records.{shape_of};
 ghost use Rattle.format.specs.Words.{item_width};
@@ -12,7 +14,7 @@ use format::types::Span;
 use table_pieces::{byte_of, has_room, is_span};
 use values::module::{data_kind, shape_of};
 
-#[derive(Drop)]
+#[derive(Clone, Copy)]
 pub enum ItemFrom {
     Got(DataItem),
     Bad,

@@ -1,4 +1,6 @@
 // Import modules with their functions, handlers with their cases, in the table words: one loop that checks n of them.
+#![tactic(auto)]
+
 ghost use Rattle.std.specs.Prelude.{◌≡◌};
 ghost use Rattle.format.specs.Reading.{many};
 ghost use Rattle.law_format.specs.Loops.{end_of};

@@ -1,4 +1,6 @@
 // 8: handlers of the table words without their cases, cases, and a handler's last case.
+#![tactic(auto)]
+
 ghost use Rattle.std.specs.Prelude.{◌≡◌, ◌+◌, ◌≤◌, length};
 ghost use Rattle.format.specs.Words.{handler_width, case_width};
 ghost use Rattle.format.specs.WellFormed.{handler_there, handler_from, case_there, case_from, last_from};
@@ -10,13 +12,13 @@ use format::module::{CASE_WIDTH, ExceptionCase, HANDLER_WIDTH, Handler};
 use format::types::Span;
 use table_pieces::{has_room, is_name, same_span};
 
-#[derive(Drop)]
+#[derive(Clone, Copy)]
 pub enum HandlerFrom {
     Got(Handler),
     Bad,
 }
 
-#[derive(Drop)]
+#[derive(Clone, Copy)]
 pub enum CaseFrom {
     Got(ExceptionCase),
     Bad,

@@ -1,4 +1,6 @@
 // 6 and 7: exports of the table words, the functions of an import module, and how many these are.
+#![tactic(auto)]
+
 ghost use Rattle.std.specs.Prelude.{◌≡◌, ◌+◌, ◌≤◌, length};
 ghost use Rattle.format.specs.Words.{export_width, function_width};
 ghost use Rattle.format.specs.WellFormed.{export_there, export_from, function_there, function_from, function_count_from};
@@ -9,19 +11,19 @@ use format::module::{EXPORT_WIDTH, ExportEntry, FUNCTION_WIDTH, IMPORT_WIDTH, Im
 use format::types::Span;
 use table_pieces::{has_room, is_name};
 
-#[derive(Drop)]
+#[derive(Clone, Copy)]
 pub enum ExportFrom {
     Got(ExportEntry),
     Bad,
 }
 
-#[derive(Drop)]
+#[derive(Clone, Copy)]
 pub enum FunctionFrom {
     Got(ImportEntry),
     Bad,
 }
 
-#[derive(Drop)]
+#[derive(Clone, Copy)]
 pub enum FunctionCountFrom {
     Got(usize),
     Bad,

@@ -1,4 +1,6 @@
 // What each record of the table words is asked: whether it lies inside the words, and whether its spans and names lie inside the file.
+#![tactic(auto)]
+
 ghost use Rattle.std.specs.Prelude.{◌≡◌, ◌+◌, min, leb, length};
 ghost use Rattle.bits.specs.Bits.{same_z};
 ghost use Rattle.format.specs.Operands.{zero_in};

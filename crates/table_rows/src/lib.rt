@@ -1,4 +1,6 @@
 // Rows of a section of any kind in the table words: one loop that checks n of them.
+#![tactic(auto)]
+
 ghost use Rattle.std.specs.Prelude.{◌≡◌};
 ghost use Rattle.format.specs.Reading.{many};
 ghost use Rattle.law_format.specs.Loops.{end_of};
@@ -17,7 +19,7 @@ use table_names::{ExportFrom, FunctionFrom, export_from, function_from};
 use table_types::{TypeFrom, type_from};
 
 // Where rows end, or the first word of the first bad one.
-#[derive(Drop)]
+#[derive(Clone, Copy)]
 pub enum EndFrom {
     Done { next: usize },
     Bad { place: usize },

@@ -1,4 +1,6 @@
 // 3: a type of the table words.
+#![tactic(auto)]
+
 ghost use Rattle.std.specs.Prelude.{◌≡◌, ◌+◌, ◌≤◌, length};
 ghost use Rattle.format.specs.Words.{type_width};
 ghost use Rattle.format.specs.WellFormed.{type_there, type_from};
@@ -11,7 +13,7 @@ use format::types::{Span, TypeDescriptor};
 use spans::count_pointers;
 use table_pieces::{has_room, is_span};
 
-#[derive(Drop)]
+#[derive(Clone, Copy)]
 pub enum TypeFrom {
     Got(TypeDescriptor),
     Bad,

@@ -1,4 +1,6 @@
 // The walk: entry, export k, next and raise, over lent tables and a lent state. Each refuses by 1 and 22 first, and a refusal hands the state back.
+#![tactic(auto)]
+
 mod known;
 
 ghost use Rattle.std.specs.Prelude.{◌≡◌};

@@ -1,4 +1,6 @@
 // What an event makes of a walk's state, in a module of so many instructions and types. No tables are read here.
+#![tactic(auto)]
+
 ghost use Rattle.std.specs.Prelude.{◌≡◌, true, ◌&&◌, ◌≤◌, ◌^◌};
 ghost use Rattle.format.specs.Checks as Checks;
 ghost use Rattle.format.specs.Walk as Spec;
@@ -118,7 +120,7 @@ fn advanced(code: usize, pc: i32, frame: Frame) -> State
 }
 
 // From where next and raise go on: a pc, or not at all.
-#[derive(Drop)]
+#[derive(Clone, Copy)]
 pub enum Standing {
     At { pc: i32, frame: Frame },
     Stays(State),

@@ -201,7 +201,7 @@ module _ (file raised : List ℕ) (words : List ℤ) (pc : ℤ) (answer : Chosen
           some = st.cased.least;
           room = omega (arith, st.next, st.room);
           nameless = st.nameless;
-          finds = ap (chosen_case file raised (handler_there words here).descriptor) (sym st.cases-are) ∙ sym (covered (handler_there words here) cs (leading (handled_from file words) (left - 1) q) e) ∙ first;
+          finds = ap (chosen_case file raised (handler_there words here).descriptor) (sym st.cases_are) ∙ sym (covered (handler_there words here) cs (leading (handled_from file words) (left - 1) q) e) ∙ first;
         }
 
     behind_it : covers pc (handler_there words here) ≡ false → Among (left - 1) q

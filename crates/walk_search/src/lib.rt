@@ -1,4 +1,6 @@
 // raise: the first handler that covers a pc, and in it the first case that takes the name.
+#![tactic(auto)]
+
 mod compare;
 
 ghost use Rattle.std.specs.Prelude.{◌≡◌};
@@ -23,7 +25,7 @@ fn covers(handler: Handler, pc: i32) -> bool
 }
 
 // Where a raised name leads: nowhere, or to a case's pc, in a handler with such a type.
-#[derive(Drop)]
+#[derive(Clone, Copy)]
 pub enum Chosen {
     Nothing,
     Case {

@@ -1,4 +1,6 @@
 // writer.rs: a module whose tables are lent, written as a file.
+#![tactic(auto)]
+
 mod groups;
 mod heads;
 mod runs;

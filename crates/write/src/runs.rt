@@ -22,7 +22,7 @@ use write_code::bytes::put_there;
 use write_code::slots::put_over;
 
 // The word where the next record begins, and the place past what was written.
-#[derive(Drop)]
+#[derive(Clone, Copy)]
 pub struct Wrote {
     pub next: usize,
     pub place: usize,

@@ -1,4 +1,6 @@
 // The bytes of a row that is no instruction, written at a place of the output. Each answers the place past them.
+#![tactic(auto)]
+
 ghost use Rattle.std.specs.Prelude.{◌≤◌, ◌<◌, length};
 ghost use Rattle.format.specs.Records.{size_limit};
 ghost use Rattle.format.specs.Content.{type_shown, item_shown, export_shown, function_shown, case_shown};

@@ -1,4 +1,6 @@
 // An instruction's line by its nine words, which the check has found good: no record is built.
+#![tactic(auto)]
+
 pub mod bytes;
 pub mod size;
 pub mod slots;

@@ -10,7 +10,7 @@ use format::types::TypeDescriptor;
 use values::instruction::{middle_number, mode_number};
 use write_pieces::operand::operand_len;
 
-#[derive(Drop)]
+#[derive(Clone, Copy)]
 pub enum Wide {
     Found(i32),
     Nothing,

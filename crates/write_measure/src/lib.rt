@@ -1,4 +1,6 @@
 // The sizing pass over well-formed tables: refusal 21 in writing order, or the true length of what is written.
+#![tactic(auto)]
+
 mod groups;
 mod heads;
 mod runs;
@@ -7,7 +9,7 @@ pub mod whole;
 use format::refusal::Refusal;
 
 // The bytes so far and the word where the next record begins.
-#[derive(Drop)]
+#[derive(Clone, Copy)]
 pub enum Measured {
     Fits { size: usize, next: usize },
     Wide(Refusal),

@@ -24,7 +24,7 @@ use write_lines::length::{case_len, export_len, function_len, item_len, type_len
 use write_lines::wide::{Wide, wide_case, wide_export, wide_instruction, wide_item, wide_type};
 
 // What is measured of a row: the first operand that no form holds, and where there is none, how long its line is.
-#[derive(Drop)]
+#[derive(Clone, Copy)]
 struct RowSize {
     wide: Wide,
     len: usize,

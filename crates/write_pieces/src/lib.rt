@@ -1,4 +1,6 @@
 // Bytes, a word and a name, written at a place of the output; an operand in the module beside. Each answers the place past it.
+#![tactic(auto)]
+
 pub mod operand;
 
 ghost use Rattle.std.specs.Prelude.{◌≡◌, [], ◌∷◌, ◌++◌, ◌+◌, ◌≤◌, length};
