@@ -1,0 +1,20 @@
+use Rattle.format.specs.Records.{middle_modes}
+use Rattle.format.proofs.Ranges.{from_zero, above, none_past}
+use Rattle.values.proofs.instruction.middle_mode.Goals as goal
+
+pub returns-in-0 : goal.returns-in-0
+returns-in-0 c = rw c.in-0.is
+
+pub returns-in-1 : goal.returns-in-1
+returns-in-1 c = rw c.in-1.is
+
+pub returns-in-2 : goal.returns-in-2
+returns-in-2 c = rw c.in-2.is
+
+pub returns-in-3 : goal.returns-in-3
+returns-in-3 c = rw c.in-3.is
+
+pub returns-in-4-to-255 : goal.returns-in-4-to-255
+returns-in-4-to-255 c =
+    let r = c.in-4-to-255.in-4-to-255-own.rest in
+    none_past middle_modes c.args.n (above (above (above (from_zero r.0.0.0.1) r.0.0.1) r.0.1) r.1)

@@ -1,0 +1,35 @@
+use Prim.Native.Nat.{ℕ, ◌/◌, ◌^◌}
+use mathlib.Core.Path.{◌≡◌, sym, ap, ◌∙◌}
+use native.Mathlib.Nat.{div-one}
+use lib.Bits.{bit_and, and_mask}
+use lib.Dec.{eqb}
+use lib.IntN.{ℤ}
+use mir.Facts.{to_z-of_z}
+use borrow.Author.Rules.{rules}
+use Rattle.bits.specs.Bits.{bits_of}
+use Rattle.format.specs.Records.{has, flag_value}
+use Rattle.law_format.proofs.Types.{Flag}
+use Rattle.values.proofs.module.contains.Goals.{After-bits_of-bits}
+use Rattle.values.proofs.module.contains.Goals as goal
+
+-- the lowest of the bits that are left when the flag's is shifted down
+one_bit : (flags : ℤ) (flag flag' : Flag) (bits : ℕ) → bits ≡ bits_of (2 ^ 31) flags → flag ≡ flag'
+    → eqb (bit_and (bits / flag_value flag') 1) 1 ≡ has (flag_value flag) flags
+unfolding has
+one_bit flags flag flag' bits e f = rw (f, e, and_mask (bits_of (2 ^ 31) flags / flag_value flag') 1)
+
+module _ (c : After-bits_of-bits) where
+  bits_are : c.bits_of-bits.result ≡ bits_of (2 ^ 31) c.args.flags
+  bits_are = c.bits_of-bits.ensures ∙ ap (bits_of (2 ^ 31)) (to_z-of_z c.ranges.flags)
+
+pub returns-in-MustCompile : goal.returns-in-MustCompile
+returns-in-MustCompile c = ap (λ (b : ℕ). eqb (bit_and b 1) 1) (sym (div-one c.bits_of-bits.result)) ∙ one_bit _ _ _ _ (bits_are (goal.at.returns-in-MustCompile c).After-bits_of-bits) c.in-MustCompile.is
+
+pub returns-in-DontCompile : goal.returns-in-DontCompile
+returns-in-DontCompile c = one_bit _ _ _ _ (bits_are (goal.at.returns-in-DontCompile c).After-bits_of-bits) c.in-DontCompile.is
+
+pub returns-in-HasHandler : goal.returns-in-HasHandler
+returns-in-HasHandler c = one_bit _ _ _ _ (bits_are (goal.at.returns-in-HasHandler c).After-bits_of-bits) c.in-HasHandler.is
+
+pub returns-in-HasImport : goal.returns-in-HasImport
+returns-in-HasImport c = one_bit _ _ _ _ (bits_are (goal.at.returns-in-HasImport c).After-bits_of-bits) c.in-HasImport.is

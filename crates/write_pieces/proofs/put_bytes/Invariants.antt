@@ -1,0 +1,13 @@
+use Prim.Native.Nat.{◌-◌}
+use mathlib.Core.Path.{refl}
+use native.Mathlib.Omega.{arith}
+use lib.ListN.{length}
+use Rattle.write_pieces.proofs.Copy.{Copied, copying, copied_more, copied_all}
+use borrow.Author.Rules.{rules}
+use Rattle.write_pieces.proofs.put_bytes.Given as goal
+
+abbrev pub invariant-loop-i : goal.invariant-loop-i
+invariant-loop-i l = Copied l.at l.bytes l.initial.out l.i l.out
+
+abbrev pub decreases-loop-i : goal.decreases-loop-i
+decreases-loop-i l = length l.bytes - l.i
