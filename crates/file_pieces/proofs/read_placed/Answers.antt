@@ -1,0 +1,12 @@
+use Rattle.format.specs.Sections.{placed_in}
+use Rattle.reader.proofs.Facts.{number_told, number_short}
+use borrow.Author.Rules.{rules}
+use Rattle.file_pieces.proofs.read_placed.Goals as goal
+
+pub returns-in_default : goal.returns-in_default
+unfolding placed_in
+returns-in_default c = rw (number_short c.read_operand.ensures c.in_default.is)
+
+pub returns : goal.returns
+unfolding placed_in
+returns c = rw (number_told c.read_operand.ensures c.in-Got.is c.in-Got.known_told-1-own.given.0.1)
