@@ -1,4 +1,4 @@
-// The boundary to other languages, declared for C in include/dis.h. Nothing is asked of the caller beyond what a slice is: a pointer to so many elements.
+// The boundary to other languages: the six functions that crate `abi_c` exports for C. Nothing is asked of the caller beyond what a slice is: a pointer to so many elements.
 #![tactic(auto)]
 
 ghost use Rattle.std.specs.Prelude.{◌≡◌};
@@ -12,13 +12,7 @@ use walk::{entry, export, next, raise};
 use write::write;
 
 // A file, into words and a module's numbers.
-#[unsafe(no_mangle)]
-pub extern "C" fn dis_load(
-    file: &[u8],
-    words: &mut [i32],
-    numbers: &mut [i32],
-    answer: &mut [i64],
-) -> i32
+pub fn dis_load(file: &[u8], words: &mut [i32], numbers: &mut [i32], answer: &mut [i64]) -> i32
     ensures { Spec.dis_load file.now words.old numbers.old answer.old ≡ (result, words.new, numbers.new, answer.new) }
 {
     if !enough(numbers.len(), answer.len()) {
@@ -29,8 +23,7 @@ pub extern "C" fn dis_load(
 }
 
 // A module, into bytes.
-#[unsafe(no_mangle)]
-pub extern "C" fn dis_write(
+pub fn dis_write(
     numbers: &[i32],
     file: &[u8],
     words: &[i32],
@@ -47,8 +40,7 @@ pub extern "C" fn dis_write(
 }
 
 // The walk: to the module's entry.
-#[unsafe(no_mangle)]
-pub extern "C" fn dis_entry(
+pub fn dis_entry(
     numbers: &[i32],
     file: &[u8],
     words: &[i32],
@@ -66,8 +58,7 @@ pub extern "C" fn dis_entry(
 }
 
 // The walk: to export k.
-#[unsafe(no_mangle)]
-pub extern "C" fn dis_export(
+pub fn dis_export(
     numbers: &[i32],
     file: &[u8],
     words: &[i32],
@@ -86,8 +77,7 @@ pub extern "C" fn dis_export(
 }
 
 // The walk: to the next instruction.
-#[unsafe(no_mangle)]
-pub extern "C" fn dis_next(
+pub fn dis_next(
     numbers: &[i32],
     file: &[u8],
     words: &[i32],
@@ -105,8 +95,7 @@ pub extern "C" fn dis_next(
 }
 
 // The walk: a name is raised.
-#[unsafe(no_mangle)]
-pub extern "C" fn dis_raise(
+pub fn dis_raise(
     numbers: &[i32],
     file: &[u8],
     words: &[i32],

@@ -2,6 +2,7 @@
 -- so a run of every sequence of events.
 -- Assumes nothing.
 use denote.Ref.{Bor}
+use denote.MutBor.{MutBor}
 use Prim.Native.Nat.{ℕ}
 use mathlib.Core.Path.{refl}
 use mathlib.Core.List.{List, [], ◌∷◌}
@@ -23,13 +24,17 @@ module _ {L S T : Type 0} {A R E : L → Type 0} {Contract : (κs : L) → A κs
 abbrev to : {X : Type 0} → X → Bor X
 to x = record { ref_ptr = (0, 0); now = x }
 
+-- and one that may be written through
+abbrev through : {X : Type 0} → X → MutBor X
+through x = record { ref_ptr = (0, 0); ghost_name = 0; now = x }
+
 pub load_allowed : (file : List ℕ) (words : List ℤ) → Bytes file → Load (file, words) (load_of file words)
-load_allowed file words bytes = let r = load_of file words in call ([], ([], tt)) (to file, (to words, tt)) r.0 (to file, (to r.1, tt)) (refl, bytes)
+load_allowed file words bytes = let r = load_of file words in call ([], ([], tt)) (to file, (through words, tt)) r.0 (to file, (through r.1, tt)) (refl, bytes)
 
 pub write_allowed : (t : Tables) (out : List ℕ) → Write (t, out) (write_of t.0 t.1 t.2 out)
 write_allowed (m, file, words) out =
     let r = write_of m file words out in
-    call ([], ([], ([], tt))) (m, (to file, (to words, (to out, tt)))) r.0 (m, (to file, (to words, (to r.1, tt)))) refl
+    call ([], ([], ([], tt))) (m, (to file, (to words, (through out, tt)))) r.0 (m, (to file, (to words, (through r.1, tt)))) refl
 
 event_allowed : (t : Tables) (event : Event) (s : State) → Happens t event s (walk t event s)
 event_allowed (m, file, words) entry s = call ([], ([], tt)) (m, (to file, (to words, (s, tt)))) _ (m, (to file, (to words, (s, tt)))) refl

@@ -8,10 +8,12 @@ ghost use Rattle.std.specs.Prelude.{◌≡◌, ◌≤◌, length};
 
 use crate::out::Out;
 use crate::report::{good, refused, unread};
-use files::{Input, read_file};
+use files::{ENAMETOOLONG, Input, read_file};
 use format::module::LoadAnswer;
-use libc::STDERR_FILENO;
 use load::load;
+use std::env::FillError;
+use std::io;
+use std::rt::{Env, Files};
 
 #[derive(Clone, Copy)]
 enum Verdict {
@@ -84,10 +86,10 @@ fn judged(out: Out, file: &[u8], lent: usize) -> Told {
     }
 }
 
-fn reported(out: Out, path: &[u8], lent: usize) -> Told {
+fn reported<R: Files>(rt: &R, out: Out, path: &[u8], lent: usize) -> Told {
     let named = out.name(path).bytes(b": ");
     let mut room = file_room();
-    match read_file(path, &mut room) {
+    match read_file(rt, path, &mut room) {
         Input::Failed(error) => Told {
             out: unread(named, error),
             verdict: Verdict::Unread,
@@ -157,27 +159,27 @@ fn asked_by(arg: &[u8]) -> Asked {
     if arg.len() <= 6 {
         return Asked::File;
     }
-    if check::same(&arg[..6], b"words=") {
+    if &arg[..6] == b"words=".as_slice() {
         decimal_of(&arg[6..])
     } else {
         Asked::File
     }
 }
 
-fn with_argument(t: Tally, i: usize) -> Tally {
+// Of an argument that is there.
+fn with_argument<R: Env + Files>(rt: &R, t: Tally, i: usize) -> Tally {
     let out = t.out;
-    let mut arg = io::buffer();
-    let len = os::arg(i, &mut arg);
-    if os::errno() != 0 {
+    let mut arg = [0; 4096];
+    let Ok(len) = rt.arg(i, &mut arg) else {
         let named = out.bytes(b"argument ").number(i as u64).bytes(b": ");
         let told = Told {
-            out: unread(named, libc::ENAMETOOLONG),
+            out: unread(named, ENAMETOOLONG),
             verdict: Verdict::Unread,
         };
         return with_verdict(t, told);
-    }
+    };
     match asked_by(&arg[..len]) {
-        Asked::File => with_verdict(t, reported(out, &arg[..len], t.lent)),
+        Asked::File => { with_verdict(t, reported(rt, out, &arg[..len], t.lent)) }
         Asked::Words(lent) => {
             let mut next = t;
             next.lent = lent;
@@ -186,7 +188,7 @@ fn with_argument(t: Tally, i: usize) -> Tally {
     }
 }
 
-fn finish(t: Tally) {
+fn finish<R: Eprint>(rt: &R, t: Tally) -> io::Result<()> {
     let told = t
         .out
         .number(t.good as u64)
@@ -195,38 +197,39 @@ fn finish(t: Tally) {
         .bytes(b" refused, ")
         .number(t.unread as u64)
         .bytes(b" not read\n");
-    if !told.ok {
-        io::write_all(
-            STDERR_FILENO,
-            b"desk: not all of the report could be written\n",
-        );
+    if told.ok {
+        Ok(())
+    } else {
+        eprintln!(rt; "desk: not all of the report could be written")
     }
 }
 
-fn main() {
-    let count = os::arg_count();
-    if count < 2 {
-        io::write_all(
-            STDERR_FILENO,
-            b"desk PATH..: says of each file whether it is a good module, and if not, why not\n",
+// Whether there is an argument of this number. 0 is the program's name.
+fn has_argument<R: Env>(rt: &R, i: usize) -> bool {
+    !matches!(rt.arg(i, &mut []), Err(FillError::NotPresent))
+}
+
+fn main(rt: HostRuntime) -> io::Result<()> {
+    if !has_argument(&rt, 1) {
+        eprintln!(rt;
+            "desk PATH..: says of each file whether it is a good module, and if not, why not"
+        )?;
+        return eprintln!(rt;
+            "words=N among the paths: the modules after it are lent N table words"
         );
-        io::write_all(
-            STDERR_FILENO,
-            b"words=N among the paths: the modules after it are lent N table words\n",
-        );
-        return;
     }
     let mut tally = Tally {
         good: 0,
         refused: 0,
         unread: 0,
         lent: 1179648,
-        out: Out { ok: true },
+        out: Out::new(rt.stdout()),
     };
-    let mut i = 1;
-    while i < count {
-        tally = with_argument(tally, i);
-        i += 1;
+    for i in 1..usize::MAX {
+        if !has_argument(&rt, i) {
+            break;
+        }
+        tally = with_argument(&rt, tally, i);
     }
-    finish(tally);
+    finish(&rt, tally)
 }

@@ -2,19 +2,25 @@
 ghost use Rattle.std.specs.Prelude.{◌≤◌, length};
 
 use bits::magnitude;
-use libc::STDOUT_FILENO;
 use reasons::Text;
+use std::rt::Stdout;
 
 #[derive(Clone, Copy)]
 pub struct Out {
+    stdout: Stdout,
     pub ok: bool,
 }
 
 impl Out {
+    pub fn new(stdout: Stdout) -> Out {
+        Out { stdout, ok: true }
+    }
+
     pub fn bytes(self, s: &[u8]) -> Out {
         if self.ok {
             Out {
-                ok: io::write_all(STDOUT_FILENO, s),
+                stdout: self.stdout,
+                ok: self.stdout.write_all(s).is_ok(),
             }
         } else {
             self
@@ -24,17 +30,21 @@ impl Out {
     pub fn number(self, n: u64) -> Out {
         if self.ok {
             Out {
-                ok: io::print_decimal(STDOUT_FILENO, n),
+                stdout: self.stdout,
+                ok: self.stdout.print(n).is_ok(),
             }
         } else {
             self
         }
     }
 
+    // With zeros in front, up to width digits.
     pub fn hex(self, n: u64, width: usize) -> Out {
         if self.ok {
+            let stdout = self.stdout;
             Out {
-                ok: io::print_hex(STDOUT_FILENO, n, width),
+                stdout,
+                ok: print!(stdout; "{n:0width$x}").is_ok(),
             }
         } else {
             self
@@ -76,10 +86,8 @@ impl Out {
 
     pub fn name(self, s: &[u8]) -> Out {
         let mut out = self;
-        let mut i = 0;
-        while i < s.len() {
-            out = out.letter(s[i]);
-            i += 1;
+        for b in s {
+            out = out.letter(*b);
         }
         out
     }

@@ -3,7 +3,7 @@ ghost use Rattle.std.specs.Prelude.{◌<◌, ◌^◌};
 
 use crate::out::Out;
 use bits::{bits_of, magnitude};
-use files::CHANGED;
+use files::{CHANGED, EACCES, EILSEQ, EISDIR, ENAMETOOLONG, ENOENT};
 use format::module::{ExportEntry, Module};
 use format::refusal::{Refusal, numbers_of};
 use spans::name;
@@ -59,10 +59,8 @@ fn exports_are(out: Out, m: Module, file: &[u8], words: &[i32]) -> Out {
     let first = first_export(m);
     let count = count_of(header.export_size);
     let mut told = out;
-    let mut k = 0;
-    while k < count {
+    for k in 0..count {
         told = export_at(told, k, file, words, first + k * 5);
-        k += 1;
     }
     told
 }
@@ -115,17 +113,20 @@ pub fn refused(out: Out, why: Refusal) -> Out {
 // Why a file was not read, by its errno.
 pub fn unread(out: Out, error: i32) -> Out {
     let told = out.bytes(b"not read: ");
-    if error == libc::ENOENT {
+    if error == ENOENT {
         return told.bytes(b"there is no such file\n");
     }
-    if error == libc::EACCES {
+    if error == EACCES {
         return told.bytes(b"it may not be read\n");
     }
-    if error == libc::EISDIR {
+    if error == EISDIR {
         return told.bytes(b"it is a directory\n");
     }
-    if error == libc::ENAMETOOLONG {
+    if error == ENAMETOOLONG {
         return told.bytes(b"its name is too long\n");
+    }
+    if error == EILSEQ {
+        return told.bytes(b"its name is not UTF-8\n");
     }
     if error == CHANGED {
         return told.bytes(b"it changed while it was read\n");

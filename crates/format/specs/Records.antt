@@ -1,6 +1,6 @@
 -- The records of a module, and what the numbers in them say.
 use Rattle.std.specs.Prelude.{ℕ, zero, suc, ◌+◌, ◌*◌, ◌/◌, ◌%◌, ◌^◌, Bool, List, [], ◌∷◌, eqb, ℤ, pos, length}
-use Rattle.std.proofs.Math.Option.{Option, none, some}
+use Rattle.std.proofs.Math.Option.{Option, none}
 use Rattle.std.specs.Int.Count.{ones}
 use Rattle.std.proofs.Math.ListN.{get_elem?}
 use Rattle.format.specs.Types.{Span, TypeDescriptor, AddressMode, MiddleMode, Addressing, Instruction, Flag, DataKind, Shape, Header, DataItem, ExportEntry, ImportEntry, Handler, ExceptionCase, Module}

@@ -1,4 +1,4 @@
--- One answer each for the nine functions over a Reader. No `Reads` is made of a contract that is proved by hand, so each line says too that the contract's clauses are one promise, and that it allows one answer.
+-- One answer each for the nine functions over a Reader: each line says too that the contract's clauses are one promise, and that it allows one answer.
 -- Assumes nothing.
 use mathlib.Core.Path.{◌≡◌, refl}
 use seplogic.Ra.Ura.{Ura}
@@ -49,29 +49,29 @@ module _ (T : Ended) where
 same_reader : (r s : Reader) → r.file ≡ s.file → r.at ≡ s.at → r ≡ s
 same_reader r s file at i = record { file = file i; at = at i }
 
-pub new_once : Promised new.ended (λ M. new.clauses) (λ κs r v. r)
+pub new_once : Promised new.ended (λ M 𝓤. new.clauses) (λ κs r v. r)
 new_once = record { Promise = _; says = λ w κs a g r v. refl; once = λ κs a r s v w p q. same_reader r s (one p.0 q.0) (one p.1 q.1) }
 
-pub moved_once : Promised moved.ended (λ M. moved.clauses) (λ κs r v. r)
+pub moved_once : Promised moved.ended (λ M 𝓤. moved.clauses) (λ κs r v. r)
 moved_once = record { Promise = _; says = λ w κs a g r v. refl; once = λ κs a r s v w p q. same_reader r s (one p.0 q.0) (one p.1 q.1) }
 
-pub position_once : Promised position.ended (λ M. position.clauses) (λ κs r v. r)
+pub position_once : Promised position.ended (λ M 𝓤. position.clauses) (λ κs r v. r)
 position_once = record { Promise = _; says = λ w κs a g r v. refl; once = λ κs a r s v w p q. one p q }
 
-pub left_once : Promised left.ended (λ M. left.clauses) (λ κs r v. r)
+pub left_once : Promised left.ended (λ M 𝓤. left.clauses) (λ κs r v. r)
 left_once = record { Promise = _; says = λ w κs a g r v. refl; once = λ κs a r s v w p q. one p q }
 
-pub byte_once : Promised byte.ended (λ M. byte.clauses) (λ κs r v. r)
+pub byte_once : Promised byte.ended (λ M 𝓤. byte.clauses) (λ κs r v. r)
 byte_once = record { Promise = _; says = λ w κs a g r v. refl; once = λ κs a r s v w p q. one_viewed byte_read (by_read B.Got B.Short) byte_kept r s p q }
 
-pub operand_once : Promised operand.ended (λ M. operand.clauses) (λ κs r v. r)
+pub operand_once : Promised operand.ended (λ M 𝓤. operand.clauses) (λ κs r v. r)
 operand_once = record { Promise = _; says = λ w κs a g r v. refl; once = λ κs a r s v w p q. one_viewed number_read (by_read N.Got N.Short) number_kept r s p q }
 
-pub word_once : Promised word.ended (λ M. word.clauses) (λ κs r v. r)
+pub word_once : Promised word.ended (λ M 𝓤. word.clauses) (λ κs r v. r)
 word_once = record { Promise = _; says = λ w κs a g r v. refl; once = λ κs a r s v w p q. one_viewed number_read (by_read N.Got N.Short) number_kept r s p q }
 
-pub name_once : Promised name.ended (λ M. name.clauses) (λ κs r v. r)
+pub name_once : Promised name.ended (λ M 𝓤. name.clauses) (λ κs r v. r)
 name_once = record { Promise = _; says = λ w κs a g r v. refl; once = λ κs a r s v w p q. one_viewed span_read (by_read span_got S.Short) span_kept r s p q }
 
-pub span_once : Promised span.ended (λ M. span.clauses) (λ κs r v. r)
+pub span_once : Promised span.ended (λ M 𝓤. span.clauses) (λ κs r v. r)
 span_once = record { Promise = _; says = λ w κs a g r v. refl; once = λ κs a r s v w p q. one_viewed span_read (by_read span_got S.Short) span_kept r s p q }

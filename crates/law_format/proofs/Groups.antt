@@ -1,6 +1,6 @@
 -- Sections 7 and 8: an import module with its functions, a handler with its cases, and the records under a flag by another name.
 -- Assumes nothing.
-use Prim.Native.Nat.{ℕ, ◌+◌, ◌%◌, ◌^◌, ◌≤◌}
+use Prim.Native.Nat.{ℕ, ◌+◌, ◌%◌, ◌^◌}
 use mathlib.Core.Path.{◌≡◌, refl}
 use mathlib.Core.Bool.{Bool, true, false, cond}
 use mathlib.Core.List.{List, [], map}

@@ -10,9 +10,9 @@ use borrow.Author.Tests.{le-leb, lt-leb, leb-true, leb-false}
 use lib.Dec.{leb}
 use lib.ListN.{length}
 use Rattle.law_format.proofs.Types.{Cursor, Ended}
-use Rattle.format.specs.Reading.{past, Step, got, refused, and_then, ◌>>◌, give, before, many}
+use Rattle.format.specs.Reading.{past, Step, got, refused, and_then, give, before, many}
 use Rattle.format.specs.Operands.{word_at}
-use Rattle.format.specs.Sections.{Reading, word_in}
+use Rattle.format.specs.Sections.{word_in}
 use Rattle.law_format.specs.Passed.{pass_words}
 
 pass_before : {A B : Type 0} (x : A) (b : B) (s : Step Cursor (List A)) → and_then (before x s) (λ _. give b) ≡ and_then s (λ _. give b)

@@ -7,7 +7,7 @@ use lib.ListN.{length}
 use mathlib.Core.Option.{Option, none, some}
 use native.Mathlib.Omega.{arith}
 use Rattle.law_format.proofs.Types.{Refusal}
-use Rattle.format.specs.Reading.{Step, got, refused, Reads, and_then, ◌>>=◌, given, before, or_end, many, until_none}
+use Rattle.format.specs.Reading.{Step, got, refused, Reads, and_then, before, or_end, many, until_none}
 use Rattle.law_format.proofs.Many.{parts_of, before_got}
 use Rattle.law_format.specs.Loops.{some_of}
 

@@ -93,7 +93,7 @@ impl<'a> Reader<'a> {
     }
 }
 
-// The operand that a file begins with, its magic where it is a module. Whoever calls this needs no walk by hand.
+// The operand that a file begins with, its magic where it is a module.
 pub fn first_operand(file: &[u8]) -> NumberRead
     ensures { number_read result ≡ operand_at file.now front }
 {

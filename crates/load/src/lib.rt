@@ -69,7 +69,7 @@ fn load_surveyed(
 
 // The second clause hands on to a caller what is known of every lent file, and what a list of numbers does not say: that it is bytes.
 pub fn load(file: &[u8], words: &mut [i32]) -> LoadAnswer
-    ensures words_value { load_of file.now words.old ≡ (result, words.new) }
+    ensures answer { load_of file.now words.old ≡ (result, words.new) }
     ensures bytes { (i : ℕ) → byte file.now i < 256 }
 {
     if FILE_LIMIT < file.len() {

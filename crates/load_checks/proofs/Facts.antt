@@ -1,9 +1,9 @@
--- What a test tells that a function answered and the code then negates; and the one order of signed numbers by the other.
+-- What a test tells that a function answered; and the one order of signed numbers by the other.
 -- Assumes nothing.
 use Prim.Native.Nat.{ℕ, ◌<◌, ◌^◌}
 use mathlib.Core.Path.{◌≡◌, sym, ◌∙◌}
 use mathlib.Core.Bool.{Bool, true, false, not}
-use borrow.Author.Tests.{not-true, not-false, leb-true, leb-false, lt-ltb, le-ltb}
+use borrow.Author.Tests.{leb-true, leb-false, lt-ltb, le-ltb}
 use lib.Dec.{leb, ltb}
 use lib.IntN.{ℤ, pos, negsuc}
 use lib.Signed.{mag, le_z, lt_z}
@@ -13,11 +13,11 @@ use Rattle.bits.proofs.Signs.{kept, below_zero, not_below}
 use Rattle.format.specs.Checks.{below}
 
 module _ {t ok : Bool} (e : t ≡ ok) where
-  pub fails : not t ≡ true → ok ≡ false
-  fails n = sym e ∙ not-true t n
+  pub fails : t ≡ false → ok ≡ false
+  fails n = sym e ∙ n
 
-  pub holds : not t ≡ false → ok ≡ true
-  holds n = sym e ∙ not-false t n
+  pub holds : t ≡ true → ok ≡ true
+  holds n = sym e ∙ n
 
 more_than : (a b : ℕ) (t : Bool) → leb a b ≡ t → ltb b a ≡ not t
 more_than a b true e = le-ltb b a (leb-true a b e)

@@ -97,6 +97,7 @@ row_told texts n {table} {k} e at same fit some =
 module _ (row : List ℕ) where
   -- a space that stands last is passed over
   pub one_less : (n : ℕ) → 0 < n → n ≤ length row → get_or row (n - 1) 0 ≡ 32 → trimmed (take (n - 1) row) ≡ trimmed (take n row)
+  one_less zero p h e = elim p [ ]
   one_less (suc m) p h e =
       let back : suc m - 1 ≡ m = omega arith in
       let last : get_or row m 0 ≡ 32 = ap (λ (k : ℕ). get_or row k 0) (sym back) ∙ e in
@@ -104,6 +105,7 @@ module _ (row : List ℕ) where
 
   -- before any other byte nothing is
   pub no_less : (n : ℕ) → 0 < n → n ≤ length row → (get_or row (n - 1) 0 ≡ 32 → ⊥) → trimmed (take n row) ≡ take n row
+  no_less zero p h ne = elim p [ ]
   no_less (suc m) p h ne =
       let back : suc m - 1 ≡ m = omega arith in
       let other : eqb (get_or row m 0) 32 ≡ false = ne_eqb (get_or row m 0) 32 (λ e. ne (ap (λ (k : ℕ). get_or row k 0) back ∙ e)) in

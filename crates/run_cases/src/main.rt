@@ -19,6 +19,9 @@ use crate::text::{BYTES, place_of};
 use abi_numbers::{MODULE_WIDTH, STATE_WIDTH};
 use bits::magnitude;
 use files::{Input, read_file};
+use std::env::FillError;
+use std::io;
+use std::rt::{Env, Files};
 
 // How many cases came out as listed, done or refused, and how many lines did not.
 #[derive(Clone, Copy)]
@@ -29,7 +32,7 @@ struct Tally {
     differ: usize,
 }
 
-fn print_verdict(verdict: Verdict) {
+fn print_verdict<P: Print>(rt: &P, verdict: Verdict) -> io::Result<()> {
     match verdict {
         Verdict::OtherAnswer {
             number,
@@ -37,17 +40,17 @@ fn print_verdict(verdict: Verdict) {
             place,
             detail,
         } => {
-            print(b"the answer is");
-            print_number(number);
-            print_number(section);
-            print_number(place);
-            print_number(detail);
+            print(rt, b"the answer is")?;
+            print_number(rt, number)?;
+            print_number(rt, section)?;
+            print_number(rt, place)?;
+            print_number(rt, detail)
         }
-        Verdict::OtherWords => print(b"the words differ, or those past them are not as lent"),
-        Verdict::OtherModule => print(b"the module's numbers differ, or are not as lent"),
-        Verdict::OtherOutput => print(b"the output differs, or what is past it is not as lent"),
-        Verdict::OtherState => print(b"the state differs, or is not as lent"),
-        _ => print(b"neither a case nor what is lent"),
+        Verdict::OtherWords => print(rt, b"the words differ, or those past them are not as lent"),
+        Verdict::OtherModule => print(rt, b"the module's numbers differ, or are not as lent"),
+        Verdict::OtherOutput => print(rt, b"the output differs, or what is past it is not as lent"),
+        Verdict::OtherState => print(rt, b"the state differs, or is not as lent"),
+        _ => print(rt, b"neither a case nor what is lent"),
     }
 }
 
@@ -55,15 +58,15 @@ fn one_more(n: usize) -> usize {
     if n < 0xFFFF_FFFF { n + 1 } else { n }
 }
 
-fn print_difference(line: usize, verdict: Verdict) {
-    print(b"  line ");
-    print_count(line);
-    print(b": ");
-    print_verdict(verdict);
-    print(b"\n");
+fn print_difference<P: Print>(rt: &P, line: usize, verdict: Verdict) -> io::Result<()> {
+    print(rt, b"  line ")?;
+    print_count(rt, line)?;
+    print(rt, b": ")?;
+    print_verdict(rt, verdict)?;
+    print(rt, b"\n")
 }
 
-fn with_line(t: Tally, verdict: Verdict) -> Tally {
+fn with_line<P: Print>(rt: &P, t: Tally, verdict: Verdict) -> io::Result<Tally> {
     let mut next = t;
     next.line = one_more(t.line);
     match verdict {
@@ -75,15 +78,15 @@ fn with_line(t: Tally, verdict: Verdict) -> Tally {
             next.refused = one_more(t.refused);
         }
         _ => {
-            print_difference(next.line, verdict);
+            print_difference(rt, next.line, verdict)?;
             next.differ = one_more(t.differ);
         }
     }
-    next
+    Ok(next)
 }
 
 // Each line is handed what the lines before it lent.
-fn run_lines(text: &[u8]) -> Tally {
+fn run_lines<P: Print>(rt: &P, text: &[u8]) -> io::Result<Tally> {
     let mut file = [0u8; BYTES];
     let mut words = [LENT; WORDS];
     let mut module = [LENT; MODULE_WIDTH];
@@ -109,19 +112,19 @@ fn run_lines(text: &[u8]) -> Tally {
         let after = ran.lent;
         lent = after;
         let verdict = ran.verdict;
-        tally = with_line(tally, verdict);
+        tally = with_line(rt, tally, verdict)?;
         from = end + 1;
     }
-    tally
+    Ok(tally)
 }
 
-fn report(t: Tally) {
-    print_count(t.done);
-    print(b" done and ");
-    print_count(t.refused);
-    print(b" refused as listed, ");
-    print_count(t.differ);
-    print(b" differ\n");
+fn report<P: Print>(rt: &P, t: Tally) -> io::Result<()> {
+    print_count(rt, t.done)?;
+    print(rt, b" done and ")?;
+    print_count(rt, t.refused)?;
+    print(rt, b" refused as listed, ")?;
+    print_count(rt, t.differ)?;
+    print(rt, b" differ\n")
 }
 
 // One byte more than a list may have, so that a longer one is told apart.
@@ -131,39 +134,45 @@ fn list_room() -> [u8; 1048577]
     [0; 1048577]
 }
 
-fn run_list(name: &[u8]) {
-    print(name);
-    print(b"\n");
+fn run_list<R: Files + Print>(rt: &R, name: &[u8]) -> io::Result<()> {
+    print(rt, name)?;
+    print(rt, b"\n")?;
     let mut room = list_room();
-    match read_file(name, &mut room) {
+    match read_file(rt, name, &mut room) {
         Input::Failed(error) => {
-            print(b"  not read, error ");
-            print_count(magnitude(error) as usize);
-            print(b"\n");
+            print(rt, b"  not read, error ")?;
+            print_count(rt, magnitude(error) as usize)?;
+            print(rt, b"\n")
         }
         Input::Read(len) => {
             if 1048576 < len {
-                print(b"  not read: it is longer than there is room for\n");
-                return;
+                return print(rt, b"  not read: it is longer than there is room for\n");
             }
-            let tally = run_lines(&room[..len]);
-            print(b"  ");
-            report(tally);
+            let tally = run_lines(rt, &room[..len])?;
+            print(rt, b"  ")?;
+            report(rt, tally)
         }
     }
 }
 
-fn with_argument(i: usize) {
-    let mut name = io::buffer();
-    let len = os::arg(i, &mut name);
-    run_list(&name[..len]);
+// Of an argument that is there: one that is too long names no file.
+fn with_argument<R: Env + Files + Print>(rt: &R, i: usize) -> io::Result<()> {
+    let mut name = [0; 4096];
+    let len = rt.arg(i, &mut name).unwrap_or(0);
+    run_list(rt, &name[..len])
 }
 
-fn main() {
-    let count = os::arg_count();
-    let mut i = 1;
-    while i < count {
-        with_argument(i);
-        i += 1;
+// Whether there is an argument of this number. 0 is the program's name.
+fn has_argument<R: Env>(rt: &R, i: usize) -> bool {
+    !matches!(rt.arg(i, &mut []), Err(FillError::NotPresent))
+}
+
+fn main(rt: HostRuntime) -> io::Result<()> {
+    for i in 1..usize::MAX {
+        if !has_argument(&rt, i) {
+            break;
+        }
+        with_argument(&rt, i)?;
     }
+    Ok(())
 }

@@ -52,7 +52,7 @@ fn change_at(lent: usize, run: &mut [i32], at: usize, to: i32) -> Count {
 
 // The module's numbers have dis.h's names and order.
 fn change(lent: usize, words: &mut [i32], module: &mut [i32], what: &[u8], value: &[u8]) -> Count {
-    if check::same(what, b"lent") {
+    if what == b"lent".as_slice() {
         return count_of(value);
     }
     let Word::Is(to) = word_of(value) else {

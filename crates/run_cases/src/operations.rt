@@ -109,7 +109,7 @@ fn bytes_alike(run: &[u8], listed: &[u8], answer: &[i64; 4]) -> bool {
         return false;
     }
     let m = least(run.len(), BYTES);
-    check::same(run, &expected[..m])
+    run == &expected[..m]
 }
 
 // ---- `load WORDS | ANSWER | MODULE | TABLES`

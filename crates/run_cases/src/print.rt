@@ -1,22 +1,21 @@
 // What the program prints: text, counts, and numbers behind a space.
 use crate::signs::apart;
+use std::io;
 
-const OUT: i32 = 1;
-
-pub fn print(text: &[u8]) {
-    io::write_all(OUT, text);
+pub fn print<P: Print>(rt: &P, text: &[u8]) -> io::Result<()> {
+    rt.write_all(text)
 }
 
-pub fn print_count(n: usize) {
-    io::print_decimal(OUT, n as u64);
+pub fn print_count<P: Print>(rt: &P, n: usize) -> io::Result<()> {
+    print!(rt; "{n}")
 }
 
-pub fn print_number(v: i64) {
+pub fn print_number<P: Print>(rt: &P, v: i64) -> io::Result<()> {
     let told = apart(v);
     if told.negative {
-        print(b" -");
+        print(rt, b" -")?;
     } else {
-        print(b" ");
+        print(rt, b" ")?;
     }
-    print_count(told.size);
+    print_count(rt, told.size)
 }

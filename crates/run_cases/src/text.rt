@@ -108,7 +108,7 @@ pub fn number_in(list: &[u8], word: &[u8]) -> usize {
     let mut from = 0;
     while from < list.len() {
         let end = place_of(list, from, SPACE);
-        if check::same(&list[from..end], word) {
+        if &list[from..end] == word {
             return k;
         }
         k += 1;

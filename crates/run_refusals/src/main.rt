@@ -3,57 +3,54 @@
 
 ghost use Rattle.std.specs.Prelude.{◌≤◌, length};
 
-use libc::STDOUT_FILENO;
 use reasons::Text;
+use std::io;
 
-fn text(t: Text)
+fn text<P: Print>(rt: &P, t: Text) -> io::Result<()>
     requires { t.len ≤ length t.bytes }
 {
     let len = t.len;
     let bytes = t.bytes;
-    io::write_all(STDOUT_FILENO, &bytes[..len]);
+    rt.write_all(&bytes[..len])
 }
 
-fn begin_row(number: u8) {
-    io::write_all(STDOUT_FILENO, b"| ");
-    io::print_decimal(STDOUT_FILENO, number as u64);
-    io::write_all(STDOUT_FILENO, b" | ");
+fn begin_row<P: Print>(rt: &P, number: u8) -> io::Result<()> {
+    print!(rt; "| {number} | ")
 }
 
-fn refusal_row(number: u8) {
-    begin_row(number);
-    text(reasons::reason(number));
-    io::write_all(STDOUT_FILENO, b" | ");
-    text(reasons::place(number));
-    io::write_all(STDOUT_FILENO, b" | ");
-    text(reasons::detail(number));
-    io::write_all(STDOUT_FILENO, b" |\n");
+fn refusal_row<P: Print>(rt: &P, number: u8) -> io::Result<()> {
+    begin_row(rt, number)?;
+    text(rt, reasons::reason(number))?;
+    print!(rt; " | ")?;
+    text(rt, reasons::place(number))?;
+    print!(rt; " | ")?;
+    text(rt, reasons::detail(number))?;
+    println!(rt; " |")
 }
 
-fn section_row(number: u8) {
-    begin_row(number);
-    text(reasons::section(number));
-    io::write_all(STDOUT_FILENO, b" |\n");
+fn section_row<P: Print>(rt: &P, number: u8) -> io::Result<()> {
+    begin_row(rt, number)?;
+    text(rt, reasons::section(number))?;
+    println!(rt; " |")
 }
 
-fn refusal_rows() {
+fn refusal_rows<P: Print>(rt: &P) -> io::Result<()> {
     for number in 1..26 {
-        refusal_row(number);
+        refusal_row(rt, number)?;
     }
+    Ok(())
 }
 
-fn section_rows() {
+fn section_rows<P: Print>(rt: &P) -> io::Result<()> {
     for number in 0..9 {
-        section_row(number);
+        section_row(rt, number)?;
     }
+    Ok(())
 }
 
-fn main() {
-    io::write_all(
-        STDOUT_FILENO,
-        b"| number | what it says | place | detail |\n|---|---|---|---|\n",
-    );
-    refusal_rows();
-    io::write_all(STDOUT_FILENO, b"\n| section | |\n|---|---|\n");
-    section_rows();
+fn main(rt: HostRuntime) -> io::Result<()> {
+    println!(rt; "| number | what it says | place | detail |\n|---|---|---|---|")?;
+    refusal_rows(&rt)?;
+    println!(rt; "\n| section | |\n|---|---|")?;
+    section_rows(&rt)
 }

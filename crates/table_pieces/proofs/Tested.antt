@@ -2,13 +2,13 @@
 -- Assumes nothing.
 use Prim.Native.Nat.{ℕ, zero, suc, ◌+◌, ◌-◌, ◌*◌, ◌≤◌, ◌<◌, min}
 use mathlib.Core.Path.{◌≡◌, refl, sym, ap, ◌∙◌}
-use mathlib.Core.Bool.{Bool, true, false, not}
+use mathlib.Core.Bool.{Bool, true, false}
 use mathlib.Core.List.{List}
 use mathlib.Core.Option.{Option, none, some}
 use native.Mathlib.Nat.{add-zero, mul-zero, mul-suc}
 use native.Mathlib.Numerals.{sub-one}
 use native.Mathlib.Omega.{arith}
-use borrow.Author.Tests.{le-leb, leb-true, leb-false, not-true, not-false}
+use borrow.Author.Tests.{le-leb, leb-true, leb-false}
 use lib.Dec.{leb}
 use lib.IntN.{ℤ}
 use lib.ListN.{length, get_elem?}
@@ -38,11 +38,11 @@ pub record Recorded {A : Type 0} (words : List ℤ) (from : Reads ℕ A) : Type 
 
 module _ {A : Type 0} {words : List ℤ} {from : Reads ℕ A} (r : Recorded words from) (w : ℕ) where
   module _ {t : Bool} (room : t ≡ leb (w + r.width) (min (length words) word_limit)) where
-    pub fits : not t ≡ false → w + r.width ≤ min (length words) word_limit
-    fits e = leb-true _ _ (sym room ∙ not-false t e)
+    pub fits : t ≡ true → w + r.width ≤ min (length words) word_limit
+    fits e = leb-true _ _ (sym room ∙ e)
 
-    pub no_room : not t ≡ true → refused (NotWellFormed w) ≡ from w
-    no_room e = sym (r.says w ∙ from_outside words r.width r.read w (leb-false _ _ (sym room ∙ not-true t e)))
+    pub no_room : t ≡ false → refused (NotWellFormed w) ≡ from w
+    no_room e = sym (r.says w ∙ from_outside words r.width r.read w (leb-false _ _ (sym room ∙ e)))
 
   pub read_room : {a : A} {q : ℕ} → from w ≡ got a q → w + r.width ≤ length words
   read_room e = omega (arith, (from_got words r.width r.read w (sym (r.says w) ∙ e)).inside)

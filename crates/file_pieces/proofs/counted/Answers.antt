@@ -1,5 +1,4 @@
 use Rattle.bits.proofs.Signs.{natural_is, natural_not, kept, passed}
-use borrow.Author.Rules.{rules}
 use Rattle.file_pieces.proofs.counted.Goals as goal
 
 pub returns-in_default : goal.returns-in_default

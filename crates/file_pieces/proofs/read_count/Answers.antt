@@ -1,7 +1,6 @@
 use Rattle.format.specs.Sections.{count_in}
 use Rattle.law_format.proofs.Told.{told}
 use Rattle.file_pieces.specs.View.{placed_read}
-use borrow.Author.Rules.{rules}
 use Rattle.file_pieces.proofs.read_count.Goals as goal
 
 pub returns-in-Refused : goal.returns-in-Refused

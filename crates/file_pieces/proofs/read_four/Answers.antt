@@ -3,7 +3,6 @@ use Rattle.format.specs.Reading.{got}
 use Rattle.format.specs.Sections.{placed_in, four_in}
 use Rattle.law_format.proofs.Told.{told}
 use Rattle.file_pieces.specs.View.{placed_read}
-use borrow.Author.Rules.{rules}
 use Rattle.file_pieces.proofs.read_four.Goals.{In-Got, In-Got-read_placed, In-Got-read_placed-2}
 use Rattle.file_pieces.proofs.read_four.Goals as goal
 

@@ -1,6 +1,5 @@
 use Rattle.format.specs.Sections.{placed_in}
 use Rattle.reader.proofs.Facts.{number_told, number_short}
-use borrow.Author.Rules.{rules}
 use Rattle.file_pieces.proofs.read_placed.Goals as goal
 
 pub returns-in_default : goal.returns-in_default

@@ -7,7 +7,6 @@ use Rattle.law_format.proofs.Pieces.{span_inside}
 use Rattle.law_format.proofs.Told.{told}
 use Rattle.reader.specs.View.{span_read}
 use Rattle.file_pieces.specs.View.{count_read}
-use borrow.Author.Rules.{rules}
 use Rattle.file_pieces.proofs.read_sized.Goals.{In-Got, In-Got-read_span}
 use Rattle.file_pieces.proofs.read_sized.Goals as goal
 

@@ -2,7 +2,6 @@ use native.Mathlib.Omega.{arith}
 use lib.ListN.{length-set}
 use Rattle.law_format.proofs.Put.{put_five}
 use mir.Facts.{to_z-of_z}
-use borrow.Author.Rules.{rules}
 use Rattle.load_store.proofs.put_five.Goals as goal
 
 pub bounds-words-w-2 : goal.bounds-words-w-2

@@ -2,7 +2,6 @@ use mathlib.Core.Path.{refl}
 use native.Mathlib.Omega.{arith}
 use mir.Facts.{to_z-of_z}
 use Rattle.law_format.proofs.Put.{put_one}
-use borrow.Author.Rules.{rules}
 use Rattle.load_store.proofs.put_import.Goals as goal
 
 pub returns : goal.returns

@@ -10,7 +10,6 @@ use Rattle.format.specs.Put.{put}
 use Rattle.format.specs.Words.{operand_words, middle_words}
 use Rattle.law_format.proofs.Put.{put_one}
 use Rattle.load_store.proofs.Facts.{four_parts}
-use borrow.Author.Rules.{rules}
 use Rattle.load_store.proofs.put_instruction.Goals as goal
 
 pub put_operand-requires : goal.put_operand-requires
@@ -21,9 +20,6 @@ put_middle-requires c = omega (arith, simp length-set at c.put_operand.auto.word
 
 pub put_operand-requires-2 : goal.put_operand-requires-2
 put_operand-requires-2 c = omega (arith, c.put_middle.auto.words, simp length-set at c.put_operand.auto.words, c.requires)
-
-pub returns : goal.returns
-returns c = c.put_operand-2.auto.words ∙ c.put_middle.auto.words ∙ simp length-set at c.put_operand.auto.words
 
 pub returns : goal.returns
 returns c =

@@ -1,7 +1,6 @@
 use mathlib.Core.Path.{refl}
 use native.Mathlib.Omega.{arith}
 use Rattle.load_store.proofs.Facts.{five_numbered}
-use borrow.Author.Rules.{rules}
 use Rattle.load_store.proofs.put_item.Goals as goal
 
 pub returns : goal.returns

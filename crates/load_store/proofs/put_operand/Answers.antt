@@ -1,6 +1,5 @@
 use native.Mathlib.Omega.{arith}
 use Rattle.load_store.proofs.Facts.{three_numbered}
-use borrow.Author.Rules.{rules}
 use Rattle.load_store.proofs.put_operand.Goals as goal
 
 pub returns : goal.returns

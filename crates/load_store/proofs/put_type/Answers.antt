@@ -1,7 +1,6 @@
 use mathlib.Core.Path.{refl}
 use native.Mathlib.Omega.{arith}
 use Rattle.load_store.proofs.Facts.{five}
-use borrow.Author.Rules.{rules}
 use Rattle.load_store.proofs.put_type.Goals as goal
 
 pub returns : goal.returns

@@ -1,7 +1,6 @@
 use mathlib.Core.Path.{refl, sym}
 use Rattle.law_format.proofs.OperandCases.{byte_there, byte_past}
 use Rattle.reader.proofs.Facts.{found_as}
-use borrow.Author.Rules.{rules}
 use Rattle.reader.proofs.read_byte.Goals as goal
 
 pub returns-then-file-at : goal.returns-then-file-at

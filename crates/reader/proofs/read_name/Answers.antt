@@ -1,12 +1,12 @@
 use mathlib.Core.Path.{◌≡◌, refl, sym, ap, ◌∙◌}
 use mathlib.Core.Option.{some}
 use native.Mathlib.Omega.{arith}
-use lib.ListN.{length, drop}
+use lib.ListN.{drop}
 use Rattle.format.specs.Operands.{zero_in}
 use Rattle.law_format.proofs.Names.{further, further_here, further_never, further_suc, further_none, zero_here, zero_later, zero_none}
 use Rattle.law_format.proofs.OperandCases.{name_whole, name_short}
 use Rattle.reader.proofs.Facts.{found_as}
-use Prim.Native.Nat.{◌≤◌, ◌+◌, ◌-◌}
+use Prim.Native.Nat.{◌+◌, ◌-◌}
 use Rattle.reader.proofs.read_name.Goals.{Then-file-i-eq0}
 use Rattle.reader.proofs.read_name.Goals as goal
 

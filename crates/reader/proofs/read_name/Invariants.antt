@@ -1,13 +1,9 @@
 -- The invariant: the first zero byte from `i` on is the first from the start on.
-use mathlib.Core.Path.{◌≡◌, refl, sym, ap, ◌∙◌}
-use mathlib.Core.Option.{some}
-use native.Mathlib.Omega.{arith}
+use mathlib.Core.Path.{◌≡◌}
 use lib.ListN.{length, drop}
 use Rattle.format.specs.Operands.{zero_in}
-use Rattle.law_format.proofs.Names.{further, further_here, further_never, further_suc, further_none, zero_here, zero_later, zero_none}
-use Rattle.law_format.proofs.OperandCases.{name_whole, name_short}
-use Rattle.reader.proofs.Facts.{found_as}
-use Prim.Native.Nat.{◌≤◌, ◌+◌, ◌-◌}
+use Rattle.law_format.proofs.Names.{further}
+use Prim.Native.Nat.{◌≤◌, ◌-◌}
 use Rattle.reader.proofs.read_name.Given as goal
 
 abbrev pub invariant-loop-i : goal.invariant-loop-i

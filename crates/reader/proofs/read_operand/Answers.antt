@@ -8,7 +8,6 @@ use mir.Facts.{to_z_pos, to_z-of_z}
 use Rattle.bits.specs.Bits.{signed}
 use Rattle.law_format.proofs.OperandCases.{operand_past, operand_low, operand_minus, operand_two, operand_two_short, operand_four, operand_four_short}
 use Rattle.reader.proofs.Facts.{found_as, low_six, less_128}
-use borrow.Author.Rules.{rules}
 use Rattle.reader.proofs.read_operand.Goals as goal
 
 pub returns-then-file-at : goal.returns-then-file-at

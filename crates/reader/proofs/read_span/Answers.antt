@@ -2,7 +2,6 @@ use mathlib.Core.Path.{refl, sym}
 use native.Mathlib.Omega.{arith}
 use Rattle.law_format.proofs.OperandCases.{span_whole, span_short}
 use Rattle.reader.proofs.Facts.{found_as}
-use borrow.Author.Rules.{rules}
 use Rattle.reader.proofs.read_span.Goals as goal
 
 pub returns-then-file-start : goal.returns-then-file-start

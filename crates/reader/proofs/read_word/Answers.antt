@@ -7,7 +7,6 @@ use mir.Facts.{to_z-of_z}
 use Rattle.bits.specs.Bits.{signed}
 use Rattle.law_format.proofs.OperandCases.{word_whole, word_short}
 use Rattle.reader.proofs.Facts.{found_as}
-use borrow.Author.Rules.{rules}
 use Rattle.reader.proofs.read_word.Goals as goal
 
 pub returns-then-file-at : goal.returns-then-file-at

@@ -1,7 +1,6 @@
 use mathlib.Core.Path.{ap, ◌∙◌}
 use native.Mathlib.Omega.{arith}
 use lib.ListN.{length}
-use borrow.Author.Rules.{rules}
 use Rattle.format.specs.Records.{ones_of}
 use Rattle.law_format.proofs.Names.{length-shown}
 use Rattle.spans.proofs.count_pointers.Goals as goal

@@ -3,7 +3,6 @@ use lib.IntN.{pos}
 use Rattle.bits.proofs.Signs.{natural_is, natural_not, passed}
 use Rattle.law_format.proofs.Names.{before_file, no_length, span_is}
 use Rattle.spans.proofs.Outside.{part_outside}
-use borrow.Author.Rules.{rules}
 use Rattle.spans.proofs.name.Goals.{In-Is}
 use Rattle.spans.proofs.name.Goals as goal
 

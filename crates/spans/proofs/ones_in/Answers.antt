@@ -1,10 +1,8 @@
-use mathlib.Core.Path.{◌≡◌}
 use native.Mathlib.Omega.{arith}
 use native.Mathlib.Nat.{zero-add, add-sub_cancel_left, min-le_left, le_trans}
-use lib.ListN.{length, drop, length-take}
-use Rattle.format.specs.Records.{ones_of}
+use lib.ListN.{length-take}
 use Rattle.law_format.proofs.Names.{ones_part, ones_rest}
-use Prim.Native.Nat.{◌+◌, ◌-◌, ◌*◌, ◌≤◌}
+use Prim.Native.Nat.{◌-◌}
 use Rattle.spans.proofs.ones_in.Goals as goal
 
 pub loop-from-init : goal.loop-from-init

@@ -1,10 +1,7 @@
 -- The invariant: what is counted, with the ones that are left, is all of them.
 use mathlib.Core.Path.{◌≡◌}
-use native.Mathlib.Omega.{arith}
-use native.Mathlib.Nat.{zero-add, add-sub_cancel_left, min-le_left, le_trans}
-use lib.ListN.{length, drop, length-take}
+use lib.ListN.{length, drop}
 use Rattle.format.specs.Records.{ones_of}
-use Rattle.law_format.proofs.Names.{ones_part, ones_rest}
 use Prim.Native.Nat.{◌+◌, ◌-◌, ◌*◌, ◌≤◌}
 use Rattle.spans.proofs.ones_in.Given as goal
 

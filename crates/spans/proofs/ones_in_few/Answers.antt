@@ -1,11 +1,8 @@
-use mathlib.Core.Path.{◌≡◌}
 use native.Mathlib.Omega.{arith}
 use native.Mathlib.Nat.{zero-add}
-use lib.Count.{ones, ones-le}
-use lib.ListN.{length, drop}
-use Rattle.format.specs.Records.{ones_of}
+use lib.Count.{ones-le}
 use Rattle.law_format.proofs.Names.{ones_turn, ones_done}
-use Prim.Native.Nat.{◌+◌, ◌-◌, ◌*◌, ◌≤◌}
+use Prim.Native.Nat.{◌-◌}
 use Rattle.spans.proofs.ones_in_few.Goals as goal
 
 pub loop-i-init : goal.loop-i-init

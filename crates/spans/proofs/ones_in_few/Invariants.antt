@@ -1,11 +1,8 @@
 -- The invariant: what is counted, with the ones that are left, is all of them; a byte has eight at most.
 use mathlib.Core.Path.{◌≡◌}
-use native.Mathlib.Omega.{arith}
-use native.Mathlib.Nat.{zero-add}
-use lib.Count.{ones, ones-le}
+use lib.Count.{ones}
 use lib.ListN.{length, drop}
 use Rattle.format.specs.Records.{ones_of}
-use Rattle.law_format.proofs.Names.{ones_turn, ones_done}
 use Prim.Native.Nat.{◌+◌, ◌-◌, ◌*◌, ◌≤◌}
 use Rattle.spans.proofs.ones_in_few.Given as goal
 

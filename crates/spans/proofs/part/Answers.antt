@@ -4,7 +4,6 @@ use native.Mathlib.Nat.{add-sub_cancel_left}
 use native.Mathlib.Omega.{arith}
 use lib.ListN.{length}
 use borrow.Author.Tests.{le-leb, lt-leb}
-use borrow.Author.Rules.{rules}
 use Rattle.format.specs.Operands.{shown}
 use Rattle.spans.proofs.Outside.{part_outside}
 use Rattle.spans.proofs.part.Goals as goal

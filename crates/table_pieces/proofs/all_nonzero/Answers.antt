@@ -1,10 +1,9 @@
-use mathlib.Core.Path.{◌≡◌, refl, sym, ap, ◌∙◌}
-use lib.ListN.{length, drop}
+use mathlib.Core.Path.{refl, sym, ap, ◌∙◌}
+use lib.ListN.{drop}
 use Rattle.format.specs.Operands.{zero_in}
 use Rattle.format.specs.WellFormed.{is_none}
 use Rattle.law_format.proofs.Names.{zero_here, zero_later, zero_none}
 use Rattle.table_pieces.proofs.Facts.{none_later}
-use borrow.Author.Rules.{rules}
 use Prim.Native.Nat.{◌+◌, ◌-◌}
 use Rattle.table_pieces.proofs.all_nonzero.Goals as goal
 

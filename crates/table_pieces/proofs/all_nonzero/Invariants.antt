@@ -1,12 +1,9 @@
 -- The invariant: there is a zero byte from `i` on exactly where there is one at all.
-use mathlib.Core.Path.{◌≡◌, refl, sym, ap, ◌∙◌}
+use mathlib.Core.Path.{◌≡◌}
 use lib.ListN.{length, drop}
 use Rattle.format.specs.Operands.{zero_in}
 use Rattle.format.specs.WellFormed.{is_none}
-use Rattle.law_format.proofs.Names.{zero_here, zero_later, zero_none}
-use Rattle.table_pieces.proofs.Facts.{none_later}
-use borrow.Author.Rules.{rules}
-use Prim.Native.Nat.{◌+◌, ◌-◌}
+use Prim.Native.Nat.{◌-◌}
 use Rattle.table_pieces.proofs.all_nonzero.Given as goal
 
 abbrev pub invariant-loop-i : goal.invariant-loop-i

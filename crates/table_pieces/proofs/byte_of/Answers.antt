@@ -2,7 +2,6 @@ use mathlib.Core.Path.{◌≡◌}
 use borrow.Author.Tests.{lt-ltb, le-ltb}
 use lib.IntN.{pos}
 use Rattle.bits.proofs.Signs.{natural_is, natural_not, passed}
-use borrow.Author.Rules.{rules}
 use Rattle.table_pieces.proofs.byte_of.Goals.{In-Is}
 use Rattle.table_pieces.proofs.byte_of.Goals as goal
 

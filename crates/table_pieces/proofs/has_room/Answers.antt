@@ -2,7 +2,6 @@ use Prim.Native.Nat.{◌+◌}
 use mathlib.Core.Path.{sym}
 use native.Mathlib.Omega.{arith}
 use borrow.Author.Tests.{lt-leb}
-use borrow.Author.Rules.{rules}
 use Rattle.table_pieces.proofs.Facts.{less_width}
 use Rattle.table_pieces.proofs.has_room.Goals as goal
 

@@ -1,8 +1,6 @@
 use mathlib.Core.Path.{sym, ap, ◌∙◌}
-use borrow.Author.Tests.{not-true, not-false}
 use Rattle.format.specs.Operands.{zero_in}
 use Rattle.format.specs.WellFormed.{is_none}
-use borrow.Author.Rules.{rules}
 use Rattle.table_pieces.proofs.is_name.Goals as goal
 
 pub returns-then-not-is_span : goal.returns-then-not-is_span

@@ -3,7 +3,6 @@ use native.Mathlib.Omega.{arith}
 use lib.IntN.{pos}
 use lib.Signed.{mag}
 use Rattle.bits.proofs.Signs.{natural_is, natural_not, passed}
-use borrow.Author.Rules.{rules}
 use Rattle.table_pieces.proofs.is_span.Goals.{In-Is, In-Is-as_natural}
 use Rattle.table_pieces.proofs.is_span.Goals as goal
 

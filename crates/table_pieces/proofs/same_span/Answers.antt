@@ -2,7 +2,6 @@ use mathlib.Core.Path.{◌≡◌, sym, ◌∙◌}
 use mathlib.Core.Bool.{Bool}
 use Rattle.bits.specs.Bits.{same_z}
 use Rattle.table_pieces.proofs.Facts.{same_kept}
-use borrow.Author.Rules.{rules}
 use Rattle.table_pieces.proofs.same_span.Goals.{After-same_word}
 use Rattle.table_pieces.proofs.same_span.Goals as goal
 

@@ -8,7 +8,6 @@ use mir.Val.{to_z, of_z}
 use mir.Facts.{to_z_pos}
 use Rattle.bits.proofs.Signs.{kept}
 use Rattle.walk_moves.proofs.Below.{is_below, goes_on, ends}
-use borrow.Author.Rules.{rules}
 use Rattle.walk_moves.proofs.advanced.Goals.{Start}
 use Rattle.walk_moves.proofs.advanced.Goals as goal
 

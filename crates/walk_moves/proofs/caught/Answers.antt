@@ -1,7 +1,6 @@
 use mathlib.Core.Path.{sym, ◌∙◌}
 use Rattle.format.specs.Walk.{caught}
 use Rattle.bits.proofs.Signs.{kept}
-use borrow.Author.Rules.{rules}
 use Rattle.walk_moves.proofs.caught.Goals as goal
 
 pub returns-then-no_catch_all : goal.returns-then-no_catch_all

@@ -4,7 +4,6 @@ use lib.IntN.{negsuc}
 use lib.Signed.{mag}
 use Rattle.format.specs.Walk.{entered}
 use Rattle.bits.proofs.Signs.{kept, is_same, is_other}
-use borrow.Author.Rules.{rules}
 use Rattle.walk_moves.proofs.entered.Goals as goal
 
 pub returns-then-pc : goal.returns-then-pc

@@ -1,7 +1,6 @@
 use native.Mathlib.Omega.{arith}
 use Rattle.format.specs.Walk.{exported}
 use Rattle.bits.proofs.Signs.{kept}
-use borrow.Author.Rules.{rules}
 use Rattle.walk_moves.proofs.exported.Goals as goal
 
 pub returns-then-pc-lt0 : goal.returns-then-pc-lt0

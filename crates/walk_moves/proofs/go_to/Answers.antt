@@ -1,7 +1,6 @@
 use mathlib.Core.Path.{sym, ◌∙◌}
 use Rattle.format.specs.Walk.{go_to}
 use Rattle.bits.proofs.Signs.{kept}
-use borrow.Author.Rules.{rules}
 use Rattle.walk_moves.proofs.go_to.Goals as goal
 
 pub returns-then-has_both : goal.returns-then-has_both

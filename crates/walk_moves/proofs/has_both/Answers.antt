@@ -1,7 +1,6 @@
 use mathlib.Core.Path.{sym, ◌∙◌}
 use Rattle.format.specs.Walk.{has_both}
 use Rattle.bits.proofs.Signs.{kept}
-use borrow.Author.Rules.{rules}
 use Rattle.walk_moves.proofs.has_both.Goals as goal
 
 pub returns-then-below : goal.returns-then-below

@@ -1,5 +1,4 @@
 use Rattle.bits.proofs.Signs.{kept}
-use borrow.Author.Rules.{rules}
 use Rattle.walk_moves.proofs.has_frame.Goals as goal
 
 pub returns-in-Default : goal.returns-in-Default

@@ -1,7 +1,6 @@
 use mathlib.Core.Path.{sym, ◌∙◌}
 use Rattle.bits.proofs.Signs.{kept}
 use Rattle.format.specs.Walk.{from_there}
-use borrow.Author.Rules.{rules}
 use Rattle.walk_moves.proofs.standing_in.Goals as goal
 
 pub returns-then-has_both : goal.returns-then-has_both

@@ -3,7 +3,6 @@ use Rattle.format.specs.Walk.{advanced}
 use Rattle.bits.proofs.Signs.{kept}
 use Rattle.walk_moves.specs.Stands.{Here}
 use Rattle.walk_moves.proofs.Below.{had_code}
-use borrow.Author.Rules.{rules}
 use Rattle.walk_moves.proofs.stepped.Goals.{In-At}
 use Rattle.walk_moves.proofs.stepped.Goals as goal
 

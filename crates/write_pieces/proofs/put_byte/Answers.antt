@@ -1,6 +1,5 @@
 use mathlib.Core.Path.{refl}
 use Rattle.law_format.proofs.Put.{put_one}
-use borrow.Author.Rules.{rules}
 use Rattle.write_pieces.proofs.put_byte.Goals as goal
 
 pub returns : goal.returns

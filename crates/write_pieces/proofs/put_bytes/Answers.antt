@@ -1,9 +1,6 @@
-use Prim.Native.Nat.{◌-◌}
 use mathlib.Core.Path.{refl}
 use native.Mathlib.Omega.{arith}
-use lib.ListN.{length}
-use Rattle.write_pieces.proofs.Copy.{Copied, copying, copied_more, copied_all}
-use borrow.Author.Rules.{rules}
+use Rattle.write_pieces.proofs.Copy.{copying, copied_more, copied_all}
 use Rattle.write_pieces.proofs.put_bytes.Goals as goal
 
 pub loop-i-init : goal.loop-i-init

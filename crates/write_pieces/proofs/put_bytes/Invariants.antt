@@ -1,9 +1,6 @@
 use Prim.Native.Nat.{◌-◌}
-use mathlib.Core.Path.{refl}
-use native.Mathlib.Omega.{arith}
 use lib.ListN.{length}
-use Rattle.write_pieces.proofs.Copy.{Copied, copying, copied_more, copied_all}
-use borrow.Author.Rules.{rules}
+use Rattle.write_pieces.proofs.Copy.{Copied}
 use Rattle.write_pieces.proofs.put_bytes.Given as goal
 
 abbrev pub invariant-loop-i : goal.invariant-loop-i

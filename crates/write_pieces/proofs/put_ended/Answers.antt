@@ -3,7 +3,6 @@ use mathlib.Core.List.{[], ◌∷◌}
 use native.Mathlib.Omega.{arith}
 use lib.ListN.{length-append}
 use Rattle.law_format.proofs.Put.{put_next}
-use borrow.Author.Rules.{rules}
 use Rattle.write_pieces.proofs.put_ended.Goals as goal
 
 pub put_bytes-end-requires : goal.put_bytes-end-requires

@@ -6,7 +6,6 @@ use Rattle.bits.proofs.Signs.{kept}
 use Rattle.format.specs.Operands.{four_bytes, encode_word}
 use Rattle.format.specs.Put.{put}
 use Rattle.law_format.proofs.OperandBack.{length_word}
-use borrow.Author.Rules.{rules}
 use Rattle.write_pieces.proofs.put_word.Goals as goal
 
 pub put_bits-requires : goal.put_bits-requires

@@ -1,6 +1,5 @@
 use mathlib.Core.Path.{ap, ◌∙◌}
 use mir.Facts.{to_z-of_z}
-use borrow.Author.Rules.{rules}
 use Rattle.format.specs.Records.{has}
 use Rattle.rows.proofs.groups.flag_of.Goals as goal
 

@@ -1,6 +1,5 @@
 use Prim.Native.Nat.{◌<◌}
 use native.Mathlib.Omega.{arith}
-use borrow.Author.Rules.{rules}
 use Rattle.law_format.proofs.Types.{AddressMode, MiddleMode}
 use Rattle.format.specs.declared.instruction.AddressMode.TheVariants as A
 use Rattle.format.specs.declared.instruction.MiddleMode.TheVariants as M

@@ -5,7 +5,6 @@ use lib.Bits.{bit_and, and_mask}
 use lib.Dec.{eqb}
 use lib.IntN.{ℤ}
 use mir.Facts.{to_z-of_z}
-use borrow.Author.Rules.{rules}
 use Rattle.bits.specs.Bits.{bits_of}
 use Rattle.format.specs.Records.{has, flag_value}
 use Rattle.law_format.proofs.Types.{Flag}

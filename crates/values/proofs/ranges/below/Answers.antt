@@ -1,5 +1,4 @@
 use Rattle.bits.proofs.Signs.{natural_is, natural_not, passed}
-use borrow.Author.Rules.{rules}
 use Rattle.values.proofs.ranges.below.Goals as goal
 
 pub returns-in_default : goal.returns-in_default

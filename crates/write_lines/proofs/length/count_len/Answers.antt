@@ -3,7 +3,6 @@ use mathlib.Core.Path.{sym, ap, ◌∙◌}
 use native.Mathlib.Omega.{arith}
 use Rattle.bits.proofs.Signs.{kept}
 use Rattle.write_lines.proofs.Forms.{len_small, len_one, len_more, code_inline, code_later}
-use borrow.Author.Rules.{rules}
 use Rattle.write_lines.proofs.length.count_len.Goals as goal
 
 pub returns-then-is_inline : goal.returns-then-is_inline

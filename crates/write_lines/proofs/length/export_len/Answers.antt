@@ -3,7 +3,6 @@ use native.Mathlib.Omega.{arith}
 use Rattle.format.specs.Operands.{shown}
 use Rattle.bits.proofs.Signs.{kept}
 use Rattle.write_lines.proofs.Forms.{len_small, span_small, export_len}
-use borrow.Author.Rules.{rules}
 use Rattle.write_lines.proofs.length.export_len.Goals as goal
 
 pub overflow_add-result : goal.overflow_add-result

@@ -2,7 +2,6 @@ use mathlib.Core.Path.{sym}
 use native.Mathlib.Omega.{arith}
 use Rattle.format.specs.Operands.{shown}
 use Rattle.write_lines.proofs.Forms.{span_small, function_len}
-use borrow.Author.Rules.{rules}
 use Rattle.write_lines.proofs.length.function_len.Goals as goal
 
 pub overflow_add-result : goal.overflow_add-result

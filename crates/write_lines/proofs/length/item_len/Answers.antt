@@ -6,7 +6,6 @@ use Rattle.format.specs.Operands.{shown}
 use Rattle.bits.proofs.Signs.{kept}
 use Rattle.format.specs.Records.{kind_number}
 use Rattle.write_lines.proofs.Forms.{len_small, span_small, code_small, item_len}
-use borrow.Author.Rules.{rules}
 use Rattle.write_lines.proofs.length.item_len.Goals as goal
 
 pub overflow_add-result : goal.overflow_add-result

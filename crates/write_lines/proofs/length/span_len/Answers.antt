@@ -1,6 +1,5 @@
 use mathlib.Core.Path.{ap}
 use lib.ListN.{length}
-use borrow.Author.Rules.{rules}
 use Rattle.write_lines.proofs.length.span_len.Goals as goal
 
 pub returns : goal.returns

@@ -5,7 +5,6 @@ use mir.Facts.{to_z_pos}
 use Rattle.format.specs.Operands.{shown}
 use Rattle.bits.proofs.Signs.{kept}
 use Rattle.write_lines.proofs.Forms.{len_small, span_small, type_len}
-use borrow.Author.Rules.{rules}
 use Rattle.write_lines.proofs.length.type_len.Goals as goal
 
 pub overflow_add-result : goal.overflow_add-result

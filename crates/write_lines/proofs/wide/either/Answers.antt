@@ -1,4 +1,3 @@
-use borrow.Author.Rules.{rules}
 use Rattle.write_lines.proofs.wide.either.Goals as goal
 
 pub returns-in-Found : goal.returns-in-Found

@@ -3,7 +3,6 @@ use native.Mathlib.Omega.{arith}
 use Rattle.bits.proofs.Signs.{kept}
 use Rattle.write_lines.specs.Lines.{first_wide}
 use Rattle.write_lines.proofs.Forms.{or_none}
-use borrow.Author.Rules.{rules}
 use Rattle.write_lines.proofs.wide.wide_export.Goals as goal
 
 pub returns : goal.returns

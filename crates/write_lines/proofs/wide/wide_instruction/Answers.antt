@@ -1,6 +1,5 @@
 use mathlib.Core.Path.{sym, ◌∙◌}
 use Rattle.write_lines.proofs.Forms.{wide_instruction}
-use borrow.Author.Rules.{rules}
 use Rattle.write_lines.proofs.wide.wide_instruction.Goals as goal
 
 pub returns : goal.returns

@@ -2,7 +2,6 @@ use mathlib.Core.Path.{sym, ◌∙◌}
 use native.Mathlib.Omega.{arith}
 use Rattle.bits.proofs.Signs.{kept}
 use Rattle.write_lines.proofs.Forms.{no_middle, one_middle, wide_none, wide_only}
-use borrow.Author.Rules.{rules}
 use Rattle.write_lines.proofs.wide.wide_middle.Goals as goal
 
 pub returns-in-0 : goal.returns-in-0

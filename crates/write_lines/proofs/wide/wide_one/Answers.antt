@@ -1,7 +1,6 @@
 use mathlib.Core.Path.{sym, ◌∙◌}
 use Rattle.bits.proofs.Signs.{kept}
 use Rattle.write_lines.proofs.Forms.{no_form, a_form}
-use borrow.Author.Rules.{rules}
 use Rattle.write_lines.proofs.wide.wide_one.Goals as goal
 
 pub returns-then-operand_len-eq0 : goal.returns-then-operand_len-eq0

@@ -2,7 +2,6 @@ use mathlib.Core.Path.{sym, ◌∙◌}
 use native.Mathlib.Omega.{arith}
 use Rattle.bits.proofs.Signs.{kept}
 use Rattle.write_lines.proofs.Forms.{no_register, one_register_lem, two_registers_lem, wide_none, wide_only, wide_both}
-use borrow.Author.Rules.{rules}
 use Rattle.write_lines.proofs.wide.wide_registers.Goals as goal
 
 pub returns-in-3 : goal.returns-in-3

@@ -1,6 +1,5 @@
 use mathlib.Core.Path.{◌∙◌}
 use Rattle.bits.proofs.Signs.{kept}
-use borrow.Author.Rules.{rules}
 use Rattle.write_lines.proofs.wide.wide_two.Goals as goal
 
 pub returns : goal.returns

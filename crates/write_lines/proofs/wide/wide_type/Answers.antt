@@ -3,7 +3,6 @@ use native.Mathlib.Omega.{arith}
 use Rattle.bits.proofs.Signs.{kept}
 use Rattle.format.specs.Operands.{shown}
 use Rattle.write_lines.proofs.Forms.{shown_most, wide_type}
-use borrow.Author.Rules.{rules}
 use Rattle.write_lines.proofs.wide.wide_type.Goals as goal
 
 pub returns : goal.returns

@@ -3,7 +3,6 @@ use native.Mathlib.Omega.{arith}
 use lib.Signed.{mag}
 use mir.Facts.{to_z-of_z}
 use Rattle.law_format.proofs.OperandCases.{len_one, len_two, len_four, len_none}
-use borrow.Author.Rules.{rules}
 use Rattle.write_pieces.proofs.operand.operand_len.Goals.{After-magnitude}
 use Rattle.write_pieces.proofs.operand.operand_len.Goals as goal
 

@@ -1,7 +1,6 @@
 use native.Mathlib.Omega.{arith}
 use lib.ListN.{length-set}
 use Rattle.law_format.proofs.Put.{put_four}
-use borrow.Author.Rules.{rules}
 use Rattle.write_pieces.proofs.operand.put_four.Goals as goal
 
 pub bounds-out-at-2 : goal.bounds-out-at-2

@@ -9,7 +9,6 @@ use Rattle.format.specs.Operands.{encode_operand, two_bytes, four_bytes}
 use Rattle.bits.specs.Bits.{bits_of}
 use Rattle.law_format.proofs.OperandCases.{encode_one, encode_two, encode-four, bits_lt}
 use Rattle.law_format.proofs.Put.{put_one}
-use borrow.Author.Rules.{rules}
 use Rattle.write_pieces.proofs.operand.put_operand.Goals.{After-bits_of, After-bits_of-in-64-to-8191, After-bits_of-in-8192-to-4294967295, After-magnitude-n}
 use Rattle.write_pieces.proofs.operand.put_operand.Goals as goal
 

@@ -1,0 +1,7 @@
+-- So many elements are counted by a law: antt would count them one by one.
+use Rattle.std.proofs.Common.{sym, ℕ}
+use lib.ListN.{length-replicate}
+use Rattle.run_cases.proofs.list_room.Goals as goal
+
+pub returns : goal.returns
+returns c = sym (length-replicate {0} {A = ℕ} 1048577 0)

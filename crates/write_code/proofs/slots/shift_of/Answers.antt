@@ -1,0 +1,12 @@
+use native.Mathlib.Omega.{arith}
+use Rattle.write_code.proofs.Overs.{pick_one, pick_two, pick_three}
+use Rattle.write_code.proofs.slots.shift_of.Goals as goal
+
+pub returns-in-0-to-63 : goal.returns-in-0-to-63
+returns-in-0-to-63 c = pick_one 24 16 0 c.args.n (omega arith)
+
+pub returns-in-64-to-8191 : goal.returns-in-64-to-8191
+returns-in-64-to-8191 c = pick_two 24 16 0 c.args.n (omega arith) (omega arith)
+
+pub returns-in-8192-to-4294967295 : goal.returns-in-8192-to-4294967295
+returns-in-8192-to-4294967295 c = pick_three 24 16 0 c.args.n (omega arith)
