@@ -1,5 +1,5 @@
-/* Dis modules for C and for languages that call C: load, write and walk. Link with libabi.a (x86-64, System V), which
- * `rt staticlib abi` writes.
+/* Dis modules for C and for languages that call C: load, write and walk. Link with libabi.a (x86-64, System V):
+ * what `rt lib --cpu x86-64` writes of crate abi_c, as examples/c/run.sh shows.
  *
  * A slice is a pointer and then how many elements it points to. There may be none; the pointer is not null even then. A
  * slice that is written overlaps no other. Nothing else is asked: any bytes and any numbers may be handed in, and no

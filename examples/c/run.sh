@@ -6,12 +6,13 @@ cd "$(dirname "$0")/../.."
 built=target/examples
 mkdir -p "$built"
 
-if ! rt staticlib abi >"$built/archive.log" 2>&1; then
+if ! (cd crates/abi_c && rt lib --cpu x86-64) >"$built/archive.log" 2>&1; then
     tail -n 20 "$built/archive.log" >&2
     echo "run.sh: no archive; the whole of what rt printed is in $built/archive.log" >&2
     exit 1
 fi
-"${CC:-cc}" -std=c11 -O2 -Wall -Wextra -Iinclude examples/c/walk.c target/staticlib/libabi.a -o "$built/walk"
+cp crates/abi_c/out/libabi_c.a "$built/libabi.a"
+"${CC:-cc}" -std=c11 -O2 -Wall -Wextra -Iinclude examples/c/walk.c "$built/libabi.a" -o "$built/walk"
 examples/c/make_module.sh >"$built/small.dis"
 
 (cd "$built" && ./walk small.dis oops other) >"$built/printed.txt"

@@ -179,7 +179,7 @@ fn with_argument<R: Env + Files>(rt: &R, t: Tally, i: usize) -> Tally {
         return with_verdict(t, told);
     };
     match asked_by(&arg[..len]) {
-        Asked::File => { with_verdict(t, reported(rt, out, &arg[..len], t.lent)) }
+        Asked::File => with_verdict(t, reported(rt, out, &arg[..len], t.lent)),
         Asked::Words(lent) => {
             let mut next = t;
             next.lent = lent;
