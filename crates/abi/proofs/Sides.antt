@@ -8,11 +8,9 @@ use borrow.Author.Tests.{leb-true}
 use lib.Dec.{leb}
 use lib.IntN.{ℤ}
 use lib.ListN.{length}
-use Rattle.format.specs.declared.module.LoadAnswer.{LoadAnswer}
+use Rattle.format.specs.Answers.{LoadAnswer, WriteAnswer, WalkAnswer}
 use Rattle.format.specs.declared.module.Module.{Module}
-use Rattle.format.specs.declared.module.WriteAnswer.{WriteAnswer}
 use Rattle.format.specs.declared.walk.State.{State}
-use Rattle.format.specs.declared.walk.WalkAnswer.{WalkAnswer}
 use Rattle.format.specs.Put.{put}
 use Rattle.format.specs.Load.{load_of}
 use Rattle.format.specs.Writing.{write_of}

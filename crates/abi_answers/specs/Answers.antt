@@ -1,11 +1,6 @@
 -- What loading, writing and the walk answer, as numbers; and how many numbers are enough for them.
-use Rattle.std.specs.Prelude.{ℕ, Bool, ◌&&◌, List, leb, ℤ}
-use Rattle.format.specs.declared.module.LoadAnswer.{LoadAnswer}
-use Rattle.format.specs.declared.module.LoadAnswer.TheVariants as L
-use Rattle.format.specs.declared.module.WriteAnswer.{WriteAnswer}
-use Rattle.format.specs.declared.module.WriteAnswer.TheVariants as W
-use Rattle.format.specs.declared.walk.WalkAnswer.{WalkAnswer}
-use Rattle.format.specs.declared.walk.WalkAnswer.TheVariants as M
+use Rattle.std.specs.Prelude.{ℕ, Ok, Err, Bool, ◌&&◌, List, leb, ℤ}
+use Rattle.format.specs.Answers.{LoadAnswer, WriteAnswer, WalkAnswer}
 use Rattle.format.specs.Put.{put}
 use Rattle.abi_numbers.specs.Numbers.{module_width, state_width, answer_width, done_numbers, refusal_numbers, module_numbers, state_numbers}
 
@@ -20,25 +15,25 @@ enough_to_walk numbers state answer = leb state_width state && enough numbers an
 -- ---- a load: the answer, and the module's numbers
 
 abbrev pub load_answer : LoadAnswer → List ℤ
-load_answer (L.Loaded m used needed) = done_numbers used needed
-load_answer (L.Refused why) = refusal_numbers why
+load_answer (Ok l) = done_numbers l.used l.needed
+load_answer (Err why) = refusal_numbers why
 
 abbrev pub module_after : LoadAnswer → List ℤ → List ℤ
-module_after (L.Loaded m used needed) numbers = put 0 (module_numbers m) numbers
-module_after (L.Refused why) numbers = numbers
+module_after (Ok l) numbers = put 0 (module_numbers l.«module») numbers
+module_after (Err why) numbers = numbers
 
 -- ---- a write
 
 abbrev pub write_answer : WriteAnswer → List ℤ
-write_answer (W.Written used) = done_numbers used 0
-write_answer (W.Refused why) = refusal_numbers why
+write_answer (Ok used) = done_numbers used 0
+write_answer (Err why) = refusal_numbers why
 
 -- ---- an event: the answer, and the state, which a refusal leaves as lent
 
 abbrev pub walk_answer : WalkAnswer → List ℤ
-walk_answer (M.Walked s) = done_numbers 0 0
-walk_answer (M.Refused why s) = refusal_numbers why
+walk_answer (Ok s) = done_numbers 0 0
+walk_answer (Err stayed) = refusal_numbers stayed.why
 
 abbrev pub state_after : WalkAnswer → List ℤ → List ℤ
-state_after (M.Walked s) state = put 0 (state_numbers s) state
-state_after (M.Refused why s) state = state
+state_after (Ok s) state = put 0 (state_numbers s) state
+state_after (Err stayed) state = state

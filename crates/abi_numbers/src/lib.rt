@@ -1,16 +1,15 @@
 // Modules, states and answers as numbers at the front of a lent slice, for callers in other languages. What stands past them stays as lent.
 #![tactic(auto)]
 
-ghost use Rattle.std.specs.Prelude.{◌≡◌, [], ◌∷◌, ◌≤◌, length};
+ghost use Rattle.std.specs.Prelude.{◌≡◌, ◌≤◌, length};
 ghost use Rattle.format.specs.Put.{put};
 ghost use Rattle.abi_numbers.specs.Numbers as Spec;
 
-use bits::{Natural, as_natural};
 use format::module::{Header, Module};
-use format::refusal::{Refusal, numbers_of};
+use format::put::put_all;
+use format::refusal::{Numbered, Refusal};
 use format::types::Span;
 use format::walk::{Frame, State, Stop};
-use load_store::{put_five, put_three};
 
 // How many numbers there are.
 pub const MODULE_WIDTH: usize = 16;
@@ -20,24 +19,11 @@ pub const STATE_WIDTH: usize = 3;
 pub const ANSWER_WIDTH: usize = 4;
 
 // A count or a place as a signed number: below 2^63 it is itself.
+#[tactic(auto, unfolding(crate::specs::Numbers::wide))]
 fn wide(n: usize) -> i64
     ensures { result ≡ Spec.wide n }
 {
-    if n < 0x8000_0000_0000_0000 {
-        n as i64
-    } else {
-        -1 - ((0xFFFF_FFFF_FFFF_FFFF - n) as i64)
-    }
-}
-
-fn put_answer(answer: &mut [i64], a: i64, b: i64, c: i64, d: i64)
-    requires { Spec.answer_width ≤ length answer.old }
-    ensures { answer.new ≡ put 0 (a ∷ b ∷ c ∷ d ∷ []) answer.old }
-{
-    answer[0] = a;
-    answer[1] = b;
-    answer[2] = c;
-    answer[3] = d;
+    (n as u64).cast_signed()
 }
 
 // Not refused: 0 and two counts.
@@ -45,23 +31,22 @@ pub fn put_done(answer: &mut [i64], a: usize, b: usize)
     requires { Spec.answer_width ≤ length answer.old }
     ensures { answer.new ≡ put 0 (Spec.done_numbers a b) answer.old }
 {
-    put_answer(answer, 0, wide(a), wide(b), 0);
+    put_all(answer, 0, [0, wide(a), wide(b), 0]);
 }
 
 pub fn put_refusal(answer: &mut [i64], why: Refusal)
     requires { Spec.answer_width ≤ length answer.old }
     ensures { answer.new ≡ put 0 (Spec.refusal_numbers why) answer.old }
 {
-    let n = numbers_of(why);
-    put_answer(
+    let n = Numbered::from(why);
+    put_all(
         answer,
-        n.number as i64,
-        n.section as i64,
-        wide(n.place),
-        n.detail,
+        0,
+        [n.number.into(), n.section.into(), wide(n.place), n.detail],
     );
 }
 
+#[tactic(auto, unfolding(crate::specs::Numbers::module_numbers))]
 pub fn put_module(numbers: &mut [i32], m: Module)
     requires { Spec.module_width ≤ length numbers.old }
     ensures { numbers.new ≡ put 0 (Spec.module_numbers m) numbers.old }
@@ -69,28 +54,31 @@ pub fn put_module(numbers: &mut [i32], m: Module)
     let h = m.header;
     let signature = h.signature;
     let name = m.name;
-    put_three(numbers, 0, h.magic, signature.start, signature.len);
-    put_five(
+    put_all(
         numbers,
-        3,
-        h.flags,
-        h.stack_extent,
-        h.code_size,
-        h.data_size,
-        h.type_size,
+        0,
+        [
+            h.magic,
+            signature.start,
+            signature.len,
+            h.flags,
+            h.stack_extent,
+            h.code_size,
+            h.data_size,
+            h.type_size,
+            h.export_size,
+            h.entry_pc,
+            h.entry_type,
+            name.start,
+            name.len,
+            m.items,
+            m.imports,
+            m.handlers,
+        ],
     );
-    put_five(
-        numbers,
-        8,
-        h.export_size,
-        h.entry_pc,
-        h.entry_type,
-        name.start,
-        name.len,
-    );
-    put_three(numbers, 13, m.items, m.imports, m.handlers);
 }
 
+#[tactic(auto, unfolding(crate::specs::Numbers::module_in))]
 pub fn module_in(numbers: &[i32]) -> Module
     requires { Spec.module_width ≤ length numbers.now }
     ensures { result ≡ Spec.module_in numbers.now }
@@ -147,60 +135,53 @@ pub fn put_state(numbers: &mut [i32], state: State)
     requires { Spec.state_width ≤ length numbers.old }
     ensures { numbers.new ≡ put 0 (Spec.state_numbers state) numbers.old }
 {
-    match state {
-        State::Idle => put_three(numbers, 0, 0, 0, 0),
-        State::At { pc, frame } => put_three(numbers, 0, 1, pc, frame_number(frame)),
-        State::Stopped(why) => put_three(numbers, 0, 2, stop_number(why), 0),
-        State::Broken => put_three(numbers, 0, 3, 0, 0),
-    }
+    let three = match state {
+        State::Idle => [0, 0, 0],
+        State::At { pc, frame } => [1, pc, frame_number(frame)],
+        State::Stopped(why) => [2, stop_number(why), 0],
+        State::Broken => [3, 0, 0],
+    };
+    put_all(numbers, 0, three);
 }
 
 fn frame_by(t: i32) -> Frame
     ensures { result ≡ Spec.frame_by t }
 {
-    if t == -1 {
-        return Frame::None;
+    match t {
+        -1 => Frame::None,
+        -2 => Frame::Default,
+        _ => Frame::Type(t),
     }
-    if t == -2 {
-        return Frame::Default;
-    }
-    Frame::Type(t)
 }
 
 fn stopped_by(reason: i32) -> State
     ensures { result ≡ Spec.state_by Spec.stops reason }
 {
-    let Natural::Is(n) = as_natural(reason) else {
-        return State::Broken;
-    };
-    match n {
-        0 => State::Broken,
+    match reason {
         1 => State::Stopped(Stop::NoEntry),
         2 => State::Stopped(Stop::NoCode),
         3 => State::Stopped(Stop::EndOfCode),
         4 => State::Stopped(Stop::Uncaught),
         5 => State::Stopped(Stop::NoCatchAll),
-        6.. => State::Broken,
+        _ => State::Broken,
     }
 }
 
 fn state_by(code: i32, a: i32, b: i32) -> State
     ensures { result ≡ Spec.state_by (Spec.states a b) code }
 {
-    let Natural::Is(n) = as_natural(code) else {
-        return State::Broken;
-    };
-    match n {
+    match code {
         0 => State::Idle,
         1 => State::At {
             pc: a,
             frame: frame_by(b),
         },
         2 => stopped_by(a),
-        3.. => State::Broken,
+        _ => State::Broken,
     }
 }
 
+#[tactic(auto, unfolding(crate::specs::Numbers::state_in))]
 pub fn state_in(numbers: &[i32]) -> State
     requires { Spec.state_width ≤ length numbers.now }
     ensures { result ≡ Spec.state_in numbers.now }

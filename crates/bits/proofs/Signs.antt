@@ -13,8 +13,7 @@ use mir.Syntax.{w32}
 use mir.Val.{to_z, of_z}
 use mir.Facts.{to_z-of_z}
 use Rattle.bits.specs.Bits.{natural_of, same_z}
-use Rattle.bits.specs.declared.Natural.{Natural}
-use Rattle.bits.specs.declared.Natural.TheVariants.{Is, Negative}
+use Rattle.std.specs.Prelude.{Option, Some, None}
 
 pub flip_pos : (n : ℕ) → negsuc 0 -ℤ pos n ≡ negsuc n
 flip_pos zero = refl
@@ -34,18 +33,18 @@ not_below (negsuc n) e = cc
 pub flip : (z : ℤ) → lt_z z (pos 0) ≡ true → negsuc 0 -ℤ z ≡ pos (mag z)
 flip z e = rw (below_zero z e) (flip_neg (mag z))
 
-pub is_negative : (z : ℤ) → lt_z z (pos 0) ≡ true → Negative ≡ natural_of z
+pub is_negative : (z : ℤ) → lt_z z (pos 0) ≡ true → None ≡ natural_of z
 is_negative z e = rw (below_zero z e)
 
-pub is_natural : (z : ℤ) → lt_z z (pos 0) ≡ false → Is (nat_abs z) ≡ natural_of z
+pub is_natural : (z : ℤ) → lt_z z (pos 0) ≡ false → Some (nat_abs z) ≡ natural_of z
 is_natural z e = rw (not_below z e)
 
 -- what a case of `natural_of` tells
-pub natural_is : (z : ℤ) {n : ℕ} → Is n ≡ natural_of z → z ≡ pos n
+pub natural_is : (z : ℤ) {n : ℕ} → Some n ≡ natural_of z → z ≡ pos n
 natural_is (pos m) e = cc
 natural_is (negsuc m) e = cc
 
-pub natural_not : (z : ℤ) → Negative ≡ natural_of z → z ≡ negsuc (mag z)
+pub natural_not : (z : ℤ) → None ≡ natural_of z → z ≡ negsuc (mag z)
 natural_not (pos m) e = cc
 natural_not (negsuc m) e = refl
 
@@ -53,7 +52,7 @@ natural_not (negsuc m) e = refl
 pub kept : (x : ℤ) → mag x < 2 ^ 31 → to_z w32 (of_z w32 x) ≡ x
 kept x h = to_z-of_z {w = w32} (record { sfits = h })
 
-pub passed : (x : ℤ) {r s : Natural} → mag x < 2 ^ 31 → r ≡ natural_of (to_z w32 (of_z w32 x)) → r ≡ s → s ≡ natural_of x
+pub passed : (x : ℤ) {r s : Option ℕ} → mag x < 2 ^ 31 → r ≡ natural_of (to_z w32 (of_z w32 x)) → r ≡ s → s ≡ natural_of x
 passed x h e g = sym g ∙ e ∙ ap natural_of (kept x h)
 
 -- and a test `x == y` compares the bits

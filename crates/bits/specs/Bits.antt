@@ -1,7 +1,5 @@
 -- Numbers of more than one byte, most significant first; two's complement; and signed numbers that count or place something.
-use Rattle.std.specs.Prelude.{ℕ, suc, ◌+◌, ◌-◌, ◌*◌, Bool, false, cond, ltb, eqb, ℤ, pos, negsuc}
-use Rattle.bits.specs.declared.Natural.{Natural}
-use Rattle.bits.specs.declared.Natural.TheVariants.{Is, Negative}
+use Rattle.std.specs.Prelude.{ℕ, suc, ◌+◌, ◌-◌, ◌*◌, Bool, false, cond, ltb, eqb, ℤ, pos, negsuc, Option, Some, None}
 
 abbrev pub be16 : ℕ → ℕ → ℕ
 be16 a b = a * 256 + b
@@ -23,6 +21,6 @@ same_z (pos a) (negsuc b) = false
 same_z (negsuc a) (pos b) = false
 same_z (negsuc a) (negsuc b) = eqb a b
 
-abbrev pub natural_of : ℤ → Natural
-natural_of (pos n) = Is n
-natural_of (negsuc n) = Negative
+abbrev pub natural_of : ℤ → Option ℕ
+natural_of (pos n) = Some n
+natural_of (negsuc n) = None

@@ -64,18 +64,8 @@ pub fn bits_of(half: u32, v: i32) -> u32
 }
 
 // A signed number as a count or a place, where it is one.
-#[derive(Clone, Copy)]
-pub enum Natural {
-    Is(usize),
-    Negative,
-}
-
-pub fn as_natural(v: i32) -> Natural
+pub fn as_natural(v: i32) -> Option<usize>
     ensures { result ≡ Spec.natural_of v }
 {
-    if v < 0 {
-        Natural::Negative
-    } else {
-        Natural::Is(v as usize)
-    }
+    usize::try_from(v).ok()
 }

@@ -5,8 +5,12 @@ use Prim.Native.Nat.{ℕ}
 use mathlib.Core.Path.{◌≡◌, refl, ap, subst}
 use mathlib.Core.List.{List, [], ◌∷◌}
 use lib.IntN.{ℤ}
-use Rattle.law_format.proofs.Types.{Module, LoadAnswer, WriteAnswer, State, WalkAnswer}
-use Rattle.table_check.specs.declared.Checked.{Checked}
+use Rattle.law_format.proofs.Types.{Module, Refusal, LoadAnswer, WriteAnswer, State, WalkAnswer}
+use Rattle.std.specs.Borrow.{Bor}
+use Rattle.std.specs.Prelude.{Result, Ok, Err, IfOk}
+use Rattle.table_check.specs.declared.Places.{Places}
+use Rattle.table_check.specs.declared.tables.Tables as Good
+use Rattle.table_check.specs.Answer.{places_in}
 use Rattle.table_check.specs.Laid.{CheckSays}
 use Rattle.format.specs.Load.{load_of}
 use Rattle.format.specs.Writing.{write_of}
@@ -43,8 +47,16 @@ Load = Call load.Learnt (λ κs a. (a.0.now, a.1.0.now)) (λ κs r v. (r, v.1.0.
 abbrev pub Tables : Type 0
 Tables = Module × List ℕ × List ℤ
 
+-- the tables that came back, and where their sections stand; or the refusal
+abbrev pub Checked : Type 0
+Checked = Result (Tables × Places) Refusal
+
+abbrev pub checked_in : Result Good.Tables Refusal → Checked
+checked_in (Ok t) = Ok ((t.«module», t.file.bytes.now, t.words.now), t.places)
+checked_in (Err why) = Err why
+
 abbrev pub Check : Tables → Checked → Type 0
-Check = Call check.Learnt (λ κs a. (a.0, a.1.0.now, a.1.1.0.now)) (λ κs r v. r)
+Check = Call check.Learnt (λ κs a. (a.0, a.1.0.now, a.1.1.0.now)) (λ κs r v. checked_in r)
 
 -- tables and an output; the answer, and the output afterwards
 abbrev pub Write : Tables × List ℕ → WriteAnswer × List ℕ → Type 0
@@ -95,8 +107,19 @@ module _ {file : List ℕ} {words left : List ℤ} {answer : LoadAnswer} where
   pub load_bytes : Load (file, words) (answer, left) → Bytes file
   load_bytes = called (λ x y. Bytes x.0) (λ κs a r v h. h.1)
 
-pub check_is : {t : Tables} {answer : Checked} → Check t answer → CheckSays t.0 t.1 t.2 answer
-check_is = called (λ t y. CheckSays t.0 t.1 t.2 y) (λ κs a r v h. h)
+-- the tables that were handed in came back, and the places are theirs; or the refusal is
+abbrev pub IsChecked : Tables → Checked → Type 0
+IsChecked t (Ok (u, places)) = (u ≡ t) × CheckSays t.0 t.1 t.2 (Ok places)
+IsChecked t (Err why) = CheckSays t.0 t.1 t.2 (Err why)
+
+module _ (m : Module) (file : Bor (List ℕ)) (words : Bor (List ℤ)) where
+  checked_by : (r : Result Good.Tables Refusal) → IfOk r (λ t. (t.«module» ≡ m) × (t.file.bytes ≡ file) × (t.words ≡ words)) → CheckSays m file.now words.now (places_in r)
+      → IsChecked (m, file.now, words.now) (checked_in r)
+  checked_by (Ok t) same says = (rw (same.0, same.1, same.2), says)
+  checked_by (Err why) same says = says
+
+pub check_is : {t : Tables} {answer : Checked} → Check t answer → IsChecked t answer
+check_is = called IsChecked (λ κs a r v h. checked_by _ _ _ r h.0 h.1)
 
 pub write_is : {t : Tables} {out left : List ℕ} {answer : WriteAnswer} → Write (t, out) (answer, left) → write_of t.0 t.1 t.2 out ≡ (answer, left)
 write_is = called (λ x y. write_of x.0.0 x.0.1 x.0.2 x.1 ≡ y) (λ κs a r v h. h)

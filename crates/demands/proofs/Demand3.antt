@@ -10,8 +10,8 @@ use native.Mathlib.Nat.{zero-add}
 use lib.IntN.{ℤ}
 use lib.ListN.{length, drop}
 use Rattle.law_format.proofs.Types.{Cursor, Module, LoadAnswer, WriteAnswer, State, WalkAnswer}
-use Rattle.format.specs.declared.module.LoadAnswer.TheVariants.{Loaded}
-use Rattle.format.specs.declared.module.WriteAnswer.TheVariants.{Written}
+use Rattle.std.specs.Prelude.{Ok}
+use Rattle.format.specs.Answers.{loaded}
 use Rattle.format.specs.declared.walk.State.TheVariants.{Idle}
 use Rattle.format.specs.Reading.{got, front}
 use Rattle.format.specs.Put.{put}
@@ -45,10 +45,10 @@ SameWalk t u = (events : List Event) (s : State) (told told' : List WalkAnswer) 
 pub record Again (t : Tables) (bytes : List ℕ) (needed : ℕ) : Type 0 where
   -- where the size limit spares them and the output has room they are written, and behind them the output stays
   pub writes : {out left : List ℕ} {answer : WriteAnswer} → length bytes ≤ size_limit → length bytes ≤ length out → Write (t, out) (answer, left)
-      → (answer ≡ Written (length bytes)) × (left ≡ bytes ++ drop (length bytes) out)
+      → (answer ≡ Ok (length bytes)) × (left ≡ bytes ++ drop (length bytes) out)
   -- a file that begins with them, where the size limit spares it and the new words have room, is accepted, and walks as before
   pub loads : (behind : List ℕ) {words left : List ℤ} {answer : LoadAnswer} → length (bytes ++ behind) ≤ size_limit → needed ≤ length words → Load (bytes ++ behind, words) (answer, left)
-      → (m : Module) × (answer ≡ Loaded m (length bytes) needed) × SameWalk t (m, bytes ++ behind, left)
+      → (m : Module) × (answer ≡ loaded m (length bytes) needed) × SameWalk t (m, bytes ++ behind, left)
 
 -- of a load that answered so: a module, the file that it was read from, the words that it was left in, and how many they are
 pub record Demand3 (m : Module) (file : List ℕ) (words : List ℤ) (needed : ℕ) : Type 0 where
@@ -68,22 +68,22 @@ same_runs t u same events s told told' end end' r r' =
 
 module _ {file : List ℕ} {words now : List ℤ} {m : Module} {used needed : ℕ} (a : Accepted file words m used needed now) (bytes : Bytes file) where
   written : {out left : List ℕ} {answer : WriteAnswer} → length (result a) ≤ size_limit → length (result a) ≤ length out → Write ((m, file, now), out) (answer, left)
-      → (answer ≡ Written (length (result a))) × (left ≡ result a ++ drop (length (result a)) out)
+      → (answer ≡ Ok (length (result a))) × (left ≡ result a ++ drop (length (result a)) out)
   unfolding put
   written {out} small room c =
       let both = sym (write_is c) ∙ loaded_written a bytes out small room in
       (ap (λ (x : WriteAnswer × List ℕ). x.0) both, ap (λ (x : WriteAnswer × List ℕ). x.1) both ∙ rw zero-add)
 
-  loaded : (behind : List ℕ) {again left : List ℤ} {answer : LoadAnswer} → length (result a ++ behind) ≤ size_limit → needed ≤ length again
-      → Load (result a ++ behind, again) (answer, left) → (m' : Module) × (answer ≡ Loaded m' (length (result a)) needed) × SameWalk (m, file, now) (m', result a ++ behind, left)
-  loaded behind {again} small room c =
+  reloaded : (behind : List ℕ) {again left : List ℤ} {answer : LoadAnswer} → length (result a ++ behind) ≤ size_limit → needed ≤ length again
+      → Load (result a ++ behind, again) (answer, left) → (m' : Module) × (answer ≡ loaded m' (length (result a)) needed) × SameWalk (m, file, now) (m', result a ++ behind, left)
+  reloaded behind {again} small room c =
       let second = loaded_again a bytes behind small again room in
       let both = sym (load_is c) ∙ second.loads in
       (module_of second.records, ap (λ (x : LoadAnswer × List ℤ). x.0) both, rw (ap (λ (x : LoadAnswer × List ℤ). x.1) both) (same_runs _ _ (walks_alike a second)))
 
 -- ---- for any accepted file
 
-pub demand_3 : {file : List ℕ} {words left : List ℤ} {m : Module} {used needed : ℕ} → Load (file, words) (Loaded m used needed, left) → Demand3 m file left needed
+pub demand_3 : {file : List ℕ} {words left : List ℤ} {m : Module} {used needed : ℕ} → Load (file, words) (loaded m used needed, left) → Demand3 m file left needed
 demand_3 {file} {words} {left} {m} c =
     let e = load_is c in
     let a = accepted file words e in
@@ -94,5 +94,5 @@ demand_3 {file} {words} {left} {m} c =
       records = a.records;
       end = a.end;
       reads = a.reads;
-      again = record { writes = written a (load_bytes c); loads = loaded a (load_bytes c) };
+      again = record { writes = written a (load_bytes c); loads = reloaded a (load_bytes c) };
     }

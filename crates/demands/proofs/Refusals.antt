@@ -11,11 +11,8 @@ use lib.Dec.{leb, ltb, leb-suc-suc}
 use lib.IntN.{ℤ}
 use lib.ListN.{length, get_elem?}
 use Rattle.law_format.proofs.Types.{Cursor, ExportEntry, Module, LoadAnswer, WriteAnswer, State, WalkAnswer, Refusal, FewWords, NoExport}
-use Rattle.format.specs.declared.module.LoadAnswer.TheVariants as LoadIs
-use Rattle.format.specs.declared.module.WriteAnswer.TheVariants as WriteIs
-use Rattle.format.specs.declared.walk.WalkAnswer.TheVariants as WalkIs
-use Rattle.table_check.specs.declared.Checked.{Checked}
-use Rattle.table_check.specs.declared.Checked.TheVariants as CheckedIs
+use Rattle.std.specs.Prelude.{Ok, Err}
+use Rattle.format.specs.Answers.{loaded, stayed}
 use Rattle.table_check.specs.Laid.{CheckSays}
 use Rattle.format.specs.Reading.{Step, got, refused, and_then, ◌>>=◌, check, sound, front}
 use Rattle.format.specs.Records.{Records}
@@ -26,7 +23,7 @@ use Rattle.format.specs.WellFormed.{records_of}
 use Rattle.format.specs.Writing.{bytes_of, written, write_of}
 use Rattle.format.specs.Walk.{Event, entry, export, next, raise, export_or, moved, in_tables, walk_of}
 use Rattle.law_walked.proofs.Rules.{moved_refused}
-use Rattle.demands.proofs.Calls.{Tables, walk}
+use Rattle.demands.proofs.Calls.{Checked, IsChecked, Tables, walk}
 
 -- ---- where a definition stops
 
@@ -59,25 +56,25 @@ event_refusal (m, file, words) event = refusal_in (and_then (records_of m file w
 -- ---- the refusal that an answer is, if it is one
 
 abbrev pub load_why : LoadAnswer → Option Refusal
-load_why (LoadIs.Loaded m used needed) = none
-load_why (LoadIs.Refused why) = some why
+load_why (Ok l) = none
+load_why (Err why) = some why
 
 abbrev pub check_why : Checked → Option Refusal
-check_why (CheckedIs.Good places) = none
-check_why (CheckedIs.Refused why) = some why
+check_why (Ok t) = none
+check_why (Err why) = some why
 
 abbrev pub write_why : WriteAnswer → Option Refusal
-write_why (WriteIs.Written n) = none
-write_why (WriteIs.Refused why) = some why
+write_why (Ok n) = none
+write_why (Err why) = some why
 
 abbrev pub walk_why : WalkAnswer → Option Refusal
-walk_why (WalkIs.Walked s) = none
-walk_why (WalkIs.Refused why s) = some why
+walk_why (Ok s) = none
+walk_why (Err r) = some r.why
 
 -- ---- they are the same
 
 by_room : (t : Bool) (m : Module) (used n : ℕ) (now words : List ℤ) (end : Cursor)
-    → load_why (cond {A = LoadAnswer × List ℤ} t (LoadIs.Loaded m used n, now) (LoadIs.Refused (FewWords n), words)).0 ≡ refusal_in (check t (FewWords n) end)
+    → load_why (cond {A = LoadAnswer × List ℤ} t (loaded m used n, now) (Err (FewWords n), words)).0 ≡ refusal_in (check t (FewWords n) end)
 by_room true m used n now words end = refl
 by_room false m used n now words end = refl
 
@@ -90,9 +87,9 @@ pub load_first : (file : List ℕ) (words : List ℤ) → load_why (load_of file
 unfolding load_of
 load_first file words = fill_first words (accept file front)
 
-pub check_first : (t : Tables) (answer : Checked) → CheckSays t.0 t.1 t.2 answer → check_why answer ≡ check_refusal t
-check_first t (CheckedIs.Good places) h = sym (ap refusal_in h.reads)
-check_first t (CheckedIs.Refused why) h = sym (ap refusal_in h)
+pub check_first : (t : Tables) (answer : Checked) → IsChecked t answer → check_why answer ≡ check_refusal t
+check_first t (Ok found) h = sym (ap refusal_in h.1.reads)
+check_first t (Err why) h = sym (ap refusal_in h)
 
 write_step : (out : List ℕ) (s : Step ℕ (List ℕ)) → write_why (written out s).0 ≡ refusal_in s
 unfolding written
@@ -129,11 +126,11 @@ unfolding walk_of
 event_first t event s = tables_first t.1 (records_of t.0 t.1 t.2) event s
 
 -- over well-formed tables it is 25 alone, for an export that is absent
-absent_in : (file : List ℕ) (x : Step ℕ Records) (event : Event) (s left : State) {why : Refusal} → refusal_in x ≡ none → in_tables s x (λ r. moved file r event s) ≡ WalkIs.Refused why left
+absent_in : (file : List ℕ) (x : Step ℕ Records) (event : Event) (s left : State) {why : Refusal} → refusal_in x ≡ none → in_tables s x (λ r. moved file r event s) ≡ stayed why left
     → (k : ℕ) × (event ≡ export k) × (why ≡ NoExport k)
 absent_in file (got r w) event s left good e = let g = moved_refused file r event s left e in (g.1, g.2, g.3)
 absent_in file (refused why) event s left good e = let z : ◌≡◌ {A = ℕ} 0 1 = cc in absurd (omega arith)
 
-pub event_absent : (t : Tables) (event : Event) (s left : State) {why : Refusal} → check_refusal t ≡ none → walk t event s ≡ WalkIs.Refused why left → (k : ℕ) × (event ≡ export k) × (why ≡ NoExport k)
+pub event_absent : (t : Tables) (event : Event) (s left : State) {why : Refusal} → check_refusal t ≡ none → walk t event s ≡ stayed why left → (k : ℕ) × (event ≡ export k) × (why ≡ NoExport k)
 unfolding walk_of
 event_absent t = absent_in t.1 (records_of t.0 t.1 t.2)

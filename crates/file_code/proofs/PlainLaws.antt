@@ -8,7 +8,7 @@ use mathlib.Core.Option.{Option, none, some}
 use native.Mathlib.Nat.{zero-add, suc-add}
 use native.Mathlib.Numerals.{sub-one}
 use native.Mathlib.Omega.{arith}
-use borrow.Author.Tests.{lt-ltb, le-ltb, ltb-true, ltb-false, lt-leb, le-leb, leb-true}
+use borrow.Author.Tests.{lt-ltb, le-ltb, ltb-true, ltb-false, le-leb, leb-true}
 use lib.Dec.{leb, ltb}
 use lib.Bits.{bit_and, and_mask, mask_lt}
 use lib.IntN.{ℤ, pos, negsuc, ◌-ℤ◌}
@@ -26,9 +26,8 @@ use Rattle.format.specs.declared.instruction.MiddleMode.TheVariants as M
 use Rattle.format.specs.Reading.{got, found, past}
 use Rattle.law_format.specs.Loops.{end_of, ends}
 use Rattle.format.specs.Operands.{byte, operand_at}
-use Rattle.format.specs.Records.{modes, middle_modes, mode_of, mode_number, middle_of, middle_number}
+use Rattle.format.specs.Records.{mode_of, mode_number, middle_of, middle_number}
 use Rattle.format.specs.Sections.{one_register, two_registers, addressed_at, middle_register, middle_at, operands_at, instruction_at}
-use Rattle.format.proofs.Ranges.{none_past}
 use Rattle.law_format.proofs.OperandCases.{byte_there, operand_low, operand_minus, operand_two, operand_four}
 use Rattle.law_format.proofs.Truth.{and_both}
 use Rattle.reader.proofs.Facts.{less_128}
@@ -81,9 +80,9 @@ module _ (file : List ℕ) where
   past_turn zero c h = absurd (omega arith)
   past_turn (suc n) c h = rw sub-one
 
-  pub past-done : (n : ℕ) (c : Cursor) → n ≡ 0 → past_operands file n c ≡ c
+  pub past_done : (n : ℕ) (c : Cursor) → n ≡ 0 → past_operands file n c ≡ c
   unfolding past_operands
-  past-done n c e = rw e
+  past_done n c e = rw e
 
   past_split : (m n : ℕ) (c : Cursor) → past_operands file (m + n) c ≡ past_operands file n (past_operands file m c)
   unfolding past_operands
@@ -129,14 +128,14 @@ module _ (file : List ℕ) where
       addressed_plain A.OffsetIndirectMp e h = rw e (one_passes A.OffsetIndirectMp (omega arith))
       addressed_plain A.OffsetIndirectFp e h = rw e (one_passes A.OffsetIndirectFp (omega arith))
       addressed_plain A.Immediate e h = rw e (one_passes A.Immediate (omega arith))
-      addressed_plain A.None e h = rw (e, past-done 0 c refl)
+      addressed_plain A.None e h = rw (e, past_done 0 c refl)
       addressed_plain A.OffsetDoubleIndirectMp e h = rw e (two_pass A.OffsetDoubleIndirectMp h)
       addressed_plain A.OffsetDoubleIndirectFp e h = rw e (two_pass A.OffsetDoubleIndirectFp h)
 
       pub middle_plain : (mode : MiddleMode) → middle_of n ≡ some mode → c.at + 4 ≤ length file
           → middle_at file place n c ≡ got (plain_middle mode) (past_operands file (middles_for (some mode)) c)
       unfolding middle_at
-      middle_plain M.None e h = rw (e, past-done 0 c refl)
+      middle_plain M.None e h = rw (e, past_done 0 c refl)
       middle_plain M.SmallImmediate e h = rw e (middle_passes M.SmallImmediate h)
       middle_plain M.SmallOffsetFp e h = rw e (middle_passes M.SmallOffsetFp h)
       middle_plain M.SmallOffsetMp e h = rw e (middle_passes M.SmallOffsetMp h)
@@ -151,32 +150,20 @@ mode_at_most A.None = omega arith
 mode_at_most A.OffsetDoubleIndirectMp = omega arith
 mode_at_most A.OffsetDoubleIndirectFp = omega arith
 
-pub operands_most : (o : Option AddressMode) → operands_for o ≤ 9
-operands_most (some mode) = omega (arith, mode_at_most mode)
-operands_most none = omega arith
-
 pub middle_at_most : (mode : MiddleMode) → middles_for (some mode) ≤ 1
 middle_at_most M.None = omega arith
 middle_at_most M.SmallImmediate = omega arith
 middle_at_most M.SmallOffsetFp = omega arith
 middle_at_most M.SmallOffsetMp = omega arith
 
+-- none says more than nine
 pub middles_most : (o : Option MiddleMode) → middles_for o ≤ 9
 middles_most (some mode) = omega (arith, middle_at_most mode)
 middles_most none = omega arith
 
-pub operands_none : (mode : ℕ) → 6 ≤ mode → operands_for (mode_of mode) ≡ 9
-operands_none mode h = rw (← none_past modes mode h)
-
-pub middles_none : (n : ℕ) → 4 ≤ n → middles_for (middle_of n) ≡ 9
-middles_none n h = rw (← none_past middle_modes n h)
-
-pub middles_one : (n : ℕ) → 1 ≤ n → n ≤ 3 → middles_for (middle_of n) ≡ 1
-middles_one zero l h = absurd (omega arith)
-middles_one (suc zero) l h = refl
-middles_one (suc (suc zero)) l h = refl
-middles_one (suc (suc (suc zero))) l h = refl
-middles_one (suc (suc (suc (suc n)))) l h = absurd (omega arith)
+pub operands_most : (o : Option AddressMode) → operands_for o ≤ 9
+operands_most (some mode) = omega (arith, mode_at_most mode)
+operands_most none = omega arith
 
 pub operands_split : (b : ℕ) {m : ℕ} → middles_for (middle_of (b / 64)) ≡ m
     → operands_in b ≡ m + operands_for (mode_of (b / 8 % 8)) + operands_for (mode_of (b % 8))
@@ -315,22 +302,22 @@ module _ (file : List ℕ) (c : Cursor) where
 
 -- ---- how many operands, by what the code asks in turn
 
-and_false : (a : Bool) → (a && false) ≡ false
-and_false true = refl
-and_false false = refl
-
 module _ (file : List ℕ) (c : Cursor) where
-  pub plain_short : length file < c.at + 22 → plain_operands file c ≡ 9
-  unfolding plain_operands
-  plain_short h = rw (lt-leb (c.at + 22) (length file) h)
-
-  pub plain_opcode : leb (byte file c.at) 175 ≡ false → plain_operands file c ≡ 9
-  unfolding plain_operands
-  plain_opcode e = rw (e, and_false (leb (c.at + 22) (length file)))
-
   pub plain_count : c.at + 22 ≤ length file → leb (byte file c.at) 175 ≡ true → plain_operands file c ≡ operands_in (byte file (c.at + 1))
   unfolding plain_operands
   plain_count h e = rw (le-leb (c.at + 22) (length file) h, e)
+
+-- ---- what few operands say, of which there are as many as the addressing byte says
+
+module _ (file : List ℕ) (c : Cursor) (few : plain_operands file c ≤ 5) where
+  few_are : plain_operands file c ≡ operands_in (byte file (c.at + 1))
+  few_are = let p = plain_few file c few in plain_count file c p.room p.opcode
+
+  pub few_inside : c.at + 2 + plain_operands file c * 4 ≤ length file
+  few_inside = omega (arith, (plain_few file c few).room)
+
+  pub few_end : end_of (instruction_at file c) ≡ ends (past_operands file (plain_operands file c) (past c 2))
+  few_end = rw few_are (plain_ends file c (plain_few file c few))
 
 -- ---- an operand's value, of the four bytes from its first on
 
@@ -471,21 +458,3 @@ module _ (file : List ℕ) (c : Cursor) where
 
     pub valued_at : Valued
     valued_at = valued_form (first / 64) refl
-
-module _ (file : List ℕ) (c : Cursor) where
-  pub first_none : (n : ℕ) → n ≡ 0 → first_of n file c ≡ pos 0
-  first_none n e = rw e
-
-  pub first_is : (n : ℕ) → 0 < n → first_of n file c ≡ value_at file c
-  first_is zero h = absurd (omega arith)
-  first_is (suc n) h = refl
-
-  pub second_none : (n : ℕ) → n < 2 → second_of n file c ≡ pos 0
-  second_none zero h = refl
-  second_none (suc zero) h = refl
-  second_none (suc (suc n)) h = absurd (omega arith)
-
-  pub second_is : (n : ℕ) → 2 ≤ n → second_of n file c ≡ value_at file (past c (width (byte file c.at)))
-  second_is zero h = absurd (omega arith)
-  second_is (suc zero) h = absurd (omega arith)
-  second_is (suc (suc n)) h = refl

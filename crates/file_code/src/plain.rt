@@ -5,11 +5,12 @@ ghost use Rattle.format.specs.Records.{mode_of, middle_of};
 ghost use Rattle.file_code.specs.Plain as Spec;
 
 use bits::be32;
+use format::instruction::Addressing;
 use format::types::Cursor;
-use values::instruction::addressing_of;
 use values::opcode::is_opcode;
 
 // An operand's length, by its first byte. Three arms of constants are selects: no jump that could be guessed wrong.
+#[tactic(auto, unfolding(crate::specs::Plain::width))]
 pub fn width(b: u8) -> usize
     ensures { result ≡ Spec.width b }
 {
@@ -47,14 +48,16 @@ pub fn middles_for(mode: u8) -> u32
     }
 }
 
+#[tactic(auto, using(crate::proofs::PlainLaws::middles_most, crate::proofs::PlainLaws::operands_most), unfolding(crate::specs::Plain::operands_in))]
 fn operands_in(b: u8) -> u32
     ensures { result ≡ Spec.operands_in b }
 {
-    let modes = addressing_of(b);
+    let modes = Addressing::from(b);
     middles_for(modes.middle) + operands_for(modes.source) + operands_for(modes.destination)
 }
 
 // How many operands a plain instruction has, five at most; of any other, more.
+#[tactic(auto, unfolding(crate::specs::Plain::plain_operands))]
 pub fn plain_operands(file: &[u8], c: Cursor) -> u32
     ensures { result ≡ Spec.plain_operands file.now c }
 {
@@ -71,6 +74,7 @@ pub fn plain_operands(file: &[u8], c: Cursor) -> u32
     operands_in(file[at + 1])
 }
 
+#[tactic(auto, unfolding(crate::specs::Plain::is_plain))]
 pub fn is_plain(file: &[u8], c: Cursor) -> bool
     ensures { result ≡ Spec.is_plain file.now c }
 {
@@ -78,6 +82,7 @@ pub fn is_plain(file: &[u8], c: Cursor) -> bool
 }
 
 // What the highest bit of an operand beside its form is worth.
+#[tactic(auto, unfolding(crate::specs::Plain::half_of))]
 fn half_of(b: u8) -> u32
     ensures { result ≡ Spec.half_of b }
 {
@@ -89,6 +94,7 @@ fn half_of(b: u8) -> u32
 }
 
 // How far from the end of four bytes those bits end.
+#[tactic(auto, unfolding(crate::specs::Plain::shift_of))]
 fn shift_of(b: u8) -> u32
     ensures { result ≡ Spec.shift_of b }
 {
@@ -131,6 +137,7 @@ pub fn first_of(file: &[u8], n: u32, c: Cursor) -> i32
 }
 
 // And the second's.
+#[tactic(auto, using(crate::proofs::PlainLaws::width_most))]
 pub fn second_of(file: &[u8], n: u32, c: Cursor) -> i32
     requires { c.at + 8 ≤ length file.now }
     ensures { result ≡ Spec.second_of n file.now c }
@@ -143,6 +150,7 @@ pub fn second_of(file: &[u8], n: u32, c: Cursor) -> i32
 }
 
 // The place past n operands, of which there are two at most: of a source or a destination, with no loop.
+#[tactic(auto, using(crate::proofs::PlainLaws::width_most), unfolding(crate::specs::Plain::past_operands))]
 pub fn past_two(file: &[u8], n: u32, c: Cursor) -> Cursor
     requires { (n ≤ 2) × (c.at + 8 ≤ length file.now) }
     ensures { result ≡ Spec.past_operands file.now n c }

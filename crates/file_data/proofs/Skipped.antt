@@ -15,6 +15,7 @@ use Rattle.format.specs.Reading.{Step, got, refused, and_then, give}
 use Rattle.law_format.specs.Loops.{ends, stops, end_of}
 use Rattle.format.specs.Records.{shape_of}
 use Rattle.format.specs.Sections.{pass_over, item_of, value_at}
+use Rattle.law_format.proofs.Many.{ended}
 use Rattle.law_format.proofs.Scans.{end_named}
 use Rattle.file_data.specs.View.{skipped}
 
@@ -24,16 +25,22 @@ pub value_ends : (file : List ℕ) (kind : DataKind) (offset : ℤ) (n : ℕ) (c
 unfolding value_at
 value_ends file kind offset n c = sym (end_named (λ u. item_of (shape_of kind) kind offset n c.at) (pass_over file (shape_of kind) n c))
 
+-- an item whose value was passed over
+pub value_read : (file : List ℕ) (kind : DataKind) (offset : ℤ) (n : ℕ) (c : Cursor) {q : Cursor}
+    → end_of (pass_over file (shape_of kind) n c) ≡ ends q → value_at file kind offset n c ≡ got (item_of (shape_of kind) kind offset n c.at) q
+unfolding value_at
+value_read file kind offset n c e = rw (ended (pass_over file (shape_of kind) n c) e).1
+
 -- an item by its rest
 pub skipped_item : (s : Step Cursor DataItem) {q : Cursor} → end_of s ≡ ends q → got true q ≡ skipped (and_then s (λ item. give (some item)))
 unfolding end_of skipped
 skipped_item (got d next) e = cc
 skipped_item (refused r) e = let z : ◌≡◌ {A = ℕ} 0 1 = cc in absurd (omega arith)
 
-pub skipped-stops : (s : Step Cursor DataItem) {why : Refusal} → end_of s ≡ stops why → refused why ≡ skipped (and_then s (λ item. give (some item)))
+pub skipped_stops : (s : Step Cursor DataItem) {why : Refusal} → end_of s ≡ stops why → refused why ≡ skipped (and_then s (λ item. give (some item)))
 unfolding end_of skipped
-skipped-stops (got d next) e = let z : ◌≡◌ {A = ℕ} 0 1 = cc in absurd (omega arith)
-skipped-stops (refused r) e = cc
+skipped_stops (got d next) e = let z : ◌≡◌ {A = ℕ} 0 1 = cc in absurd (omega arith)
+skipped_stops (refused r) e = cc
 
 -- what was passed over could be read
 pub skipped_some : (s : Step Cursor (Option DataItem)) {q : Cursor} → skipped s ≡ got true q → (d : DataItem) × (s ≡ got (some d) q)

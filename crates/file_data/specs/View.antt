@@ -1,38 +1,25 @@
--- The data readers' answers, as steps of the definitions: value and next place, or the refusal.
-use Rattle.std.specs.Prelude.{Bool, true, false, ℤ}
-use Rattle.std.proofs.Math.Option.{Option, none, some}
+-- The answers about data items, as readings of the definitions: an item or the section's end.
+use Rattle.std.specs.Prelude.{Bool, true, false, Option, Result, Ok, Err}
+use Rattle.std.proofs.Math.Option as Math
 use Rattle.format.specs.declared.types.Cursor.{Cursor}
 use Rattle.format.specs.declared.module.DataItem.{DataItem}
+use Rattle.format.specs.declared.refusal.Refusal.{Refusal}
 use Rattle.format.specs.Reading.{Step, got, refused}
-use Rattle.file_data.specs.declared.OffsetRead.{OffsetRead}
-use Rattle.file_data.specs.declared.OffsetRead.TheVariants as OffsetReadIs
-use Rattle.file_data.specs.declared.ItemStep.{ItemStep}
-use Rattle.file_data.specs.declared.ItemStep.TheVariants as ItemStepIs
-use Rattle.file_data.specs.declared.ItemRead.{ItemRead}
-use Rattle.file_data.specs.declared.ItemRead.TheVariants as ItemReadIs
+use Rattle.format.specs.Views.{maybe}
 use Rattle.file_data.specs.declared.skip.ItemEnd.{ItemEnd}
-use Rattle.file_data.specs.declared.skip.ItemEnd.TheVariants as ItemEndIs
+use Rattle.file_data.specs.declared.skip.ItemEnd.TheVariants.{Item, End}
 
-abbrev pub offset_read : OffsetRead → Step Cursor ℤ
-offset_read (OffsetReadIs.Got v next) = got v next
-offset_read (OffsetReadIs.Refused why) = refused why
-
-abbrev pub item_step : ItemStep → Step Cursor DataItem
-item_step (ItemStepIs.Got v next) = got v next
-item_step (ItemStepIs.Refused why) = refused why
-
-abbrev pub item_read : ItemRead → Step Cursor (Option DataItem)
-item_read (ItemReadIs.Got item next) = got (some item) next
-item_read (ItemReadIs.End next) = got none next
-item_read (ItemReadIs.Refused why) = refused why
+abbrev pub item_read : Result (Option DataItem × Cursor) Refusal → Step Cursor (Math.Option DataItem)
+item_read (Ok (item, next)) = got (maybe item) next
+item_read (Err why) = refused why
 
 -- whether there was an item, and the place after it
-unfoldable pub skipped : Step Cursor (Option DataItem) → Step Cursor Bool
-skipped (got (some item) next) = got true next
-skipped (got none next) = got false next
+unfoldable pub skipped : Step Cursor (Math.Option DataItem) → Step Cursor Bool
+skipped (got (Math.some item) next) = got true next
+skipped (got Math.none next) = got false next
 skipped (refused why) = refused why
 
-abbrev pub item_end : ItemEnd → Step Cursor Bool
-item_end (ItemEndIs.Item next) = got true next
-item_end (ItemEndIs.End next) = got false next
-item_end (ItemEndIs.Refused why) = refused why
+abbrev pub item_end : Result ItemEnd Refusal → Step Cursor Bool
+item_end (Ok (Item next)) = got true next
+item_end (Ok (End next)) = got false next
+item_end (Err why) = refused why

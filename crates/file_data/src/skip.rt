@@ -2,64 +2,46 @@
 ghost use Rattle.std.specs.Prelude.{◌≡◌};
 ghost use Rattle.law_format.specs.Loops.{end_of};
 ghost use Rattle.format.specs.Sections.{coded_at, item_at};
-ghost use Rattle.reader.specs.View.{end_read};
+ghost use Rattle.law_format.specs.Views.{as_end};
 ghost use Rattle.file_data.specs.View.{item_end, skipped};
 
-use crate::{OffsetRead, pass_value, read_elements, read_offset};
-use file_pieces::CountRead;
-use format::module::MaybeDataKind;
+use crate::{pass_value, read_elements, read_offset};
+use format::module::DataKind;
 use format::refusal::Refusal;
 use format::types::Cursor;
-use reader::{ByteRead, EndRead, read_byte};
-use values::module::data_kind;
+use reader::read_byte;
 
 // Past an item, or past the section's end.
 #[derive(Clone, Copy)]
 pub enum ItemEnd {
     Item { next: Cursor },
     End { next: Cursor },
-    Refused(Refusal),
 }
 
 // What stands after the code byte, which stands at `place`.
-fn skip_coded(file: &[u8], place: usize, code: u8, c: Cursor) -> EndRead
-    ensures { end_read result ≡ end_of (coded_at file.now place code c) }
+#[tactic(auto, using(crate::proofs::Skipped::value_ends), unfolding(format::specs::Sections::coded_at, law_format::specs::Loops::end_of))]
+fn skip_coded(file: &[u8], place: usize, code: u8, c: Cursor) -> Result<Cursor, Refusal>
+    ensures { as_end result ≡ end_of (coded_at file.now place code c) }
 {
-    match read_elements(file, code, c) {
-        CountRead::Refused(why) => EndRead::Refused(why),
-        CountRead::Got { count, next: d } => match read_offset(file, d) {
-            OffsetRead::Refused(why) => EndRead::Refused(why),
-            OffsetRead::Got { offset: _, next } => {
-                let MaybeDataKind::Is(kind) = data_kind(code >> 4) else {
-                    return EndRead::Refused(Refusal::BadKind {
-                        place,
-                        nibble: code >> 4,
-                    });
-                };
-                pass_value(file, kind, count, next)
-            }
-        },
-    }
+    let (count, d) = read_elements(file, code, c)?;
+    let (_, next) = read_offset(file, d)?;
+    let nibble = code >> 4;
+    let Ok(kind) = DataKind::try_from(nibble) else {
+        return Err(Refusal::BadKind { place, nibble });
+    };
+    pass_value(file, kind, count, next)
 }
 
-pub fn skip_item(file: &[u8], c: Cursor) -> ItemEnd
+#[tactic(auto, using(crate::proofs::Skipped::skipped_item, crate::proofs::Skipped::skipped_stops), unfolding(format::specs::Sections::item_at, crate::specs::View::skipped))]
+pub fn skip_item(file: &[u8], c: Cursor) -> Result<ItemEnd, Refusal>
     ensures { item_end result ≡ skipped (item_at file.now c) }
 {
-    let ByteRead::Got {
-        value: code,
-        next: d,
-    } = read_byte(file, c)
-    else {
-        return ItemEnd::Refused(Refusal::Ended {
-            section: 4,
-            place: c.at,
-        });
+    let Some((code, d)) = read_byte(file, c) else {
+        return Err(Refusal::ended(4, c));
     };
     if code == 0 {
-        return ItemEnd::End { next: d };
+        return Ok(ItemEnd::End { next: d });
     }
-    match skip_coded(file, c.at, code, d) {
-        EndRead::Refused(why) => ItemEnd::Refused(why),
-        EndRead::Done { next } => ItemEnd::Item { next },
-    }
+    let next = skip_coded(file, c.at, code, d)?;
+    Ok(ItemEnd::Item { next })
 }

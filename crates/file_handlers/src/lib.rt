@@ -1,104 +1,67 @@
 // 8, a handler's own record and its cases.
 #![tactic(auto)]
 
-ghost use Rattle.std.specs.Prelude.{◌≡◌, ◌≤◌, length};
+ghost use Rattle.std.specs.Prelude.{◌≡◌, ◌+◌, ◌%◌, ◌^◌, pos};
+ghost use Rattle.bits.specs.Bits as Spec;
 ghost use Rattle.law_format.specs.Loops.{end_of};
-ghost use Rattle.format.specs.Records.{size_limit};
 ghost use Rattle.format.specs.Sections.{case_at, head_at};
-ghost use Rattle.reader.specs.View.{end_read};
-ghost use Rattle.file_handlers.specs.View.{case_read, head_read};
+ghost use Rattle.law_format.specs.Views.{as_step, as_end};
 
 use bits::bits_of;
 use file_names::read_named;
-use file_pieces::{FourRead, SpanStep, read_four};
+use file_pieces::read_four;
 use format::module::{ExceptionCase, Handler};
 use format::refusal::Refusal;
-use format::types::Cursor;
-use reader::{EndRead, NumberRead, read_operand};
+use format::types::{Cursor, File};
+use reader::read_operand;
 
-#[derive(Clone, Copy)]
-pub enum CaseRead {
-    Got { case: ExceptionCase, next: Cursor },
-    Refused(Refusal),
-}
-
-#[derive(Clone, Copy)]
-pub enum HeadRead {
-    Got { handler: Handler, next: Cursor },
-    Refused(Refusal),
-}
-
-pub fn read_case(file: &[u8], c: Cursor) -> CaseRead
-    requires { length file.now ≤ size_limit }
-    ensures { case_read result ≡ case_at file.now c }
+#[tactic(auto, unfolding(format::specs::Sections::case_at))]
+pub fn read_case(file: File, c: Cursor) -> Result<(ExceptionCase, Cursor), Refusal>
+    ensures { as_step result ≡ case_at file.entry.bytes.now c }
 {
-    match read_named(file, 8, c) {
-        SpanStep::Refused(why) => CaseRead::Refused(why),
-        SpanStep::Got {
-            span: name,
-            next: d,
-        } => {
-            let NumberRead::Got { value: pc, next } = read_operand(file, d) else {
-                return CaseRead::Refused(Refusal::Ended {
-                    section: 8,
-                    place: d.at,
-                });
-            };
-            CaseRead::Got {
-                case: ExceptionCase { name, pc },
-                next,
-            }
-        }
-    }
+    let (name, d) = read_named(file, 8, c)?;
+    let Some((pc, next)) = read_operand(file.bytes, d) else {
+        return Err(Refusal::ended(8, d));
+    };
+    Ok((ExceptionCase { name, pc }, next))
 }
 
 // Where a case ends, for the first pass: no record is built.
-pub fn skip_case(file: &[u8], c: Cursor) -> EndRead
-    requires { length file.now ≤ size_limit }
-    ensures { end_read result ≡ end_of (case_at file.now c) }
+#[tactic(auto, unfolding(format::specs::Sections::case_at, law_format::specs::Loops::end_of))]
+pub fn skip_case(file: File, c: Cursor) -> Result<Cursor, Refusal>
+    ensures { as_end result ≡ end_of (case_at file.entry.bytes.now c) }
 {
-    match read_named(file, 8, c) {
-        SpanStep::Refused(why) => EndRead::Refused(why),
-        SpanStep::Got { span: _, next: pc } => {
-            let NumberRead::Got { value: _, next } = read_operand(file, pc) else {
-                return EndRead::Refused(Refusal::Ended {
-                    section: 8,
-                    place: pc.at,
-                });
-            };
-            EndRead::Done { next }
-        }
-    }
+    let (_, pc) = read_named(file, 8, c)?;
+    let Some((_, next)) = read_operand(file.bytes, pc) else {
+        return Err(Refusal::ended(8, pc));
+    };
+    Ok(next)
 }
 
 // The number of cases is the packed count's low 16 bits, and the last.
-pub fn read_head(file: &[u8], c: Cursor) -> HeadRead
-    ensures { head_read result ≡ head_at file.now c }
+#[tactic(auto, using(crate::proofs::Packed::low_half))]
+fn cases_of(packed: i32) -> i32
+    ensures { result ≡ pos (Spec.bits_of (2 ^ 31) packed % 2 ^ 16 + 1) }
 {
-    match read_four(file, 8, c) {
-        FourRead::Refused(why) => HeadRead::Refused(why),
-        FourRead::Got { four, next: d } => {
-            let NumberRead::Got {
-                value: packed,
-                next,
-            } = read_operand(file, d)
-            else {
-                return HeadRead::Refused(Refusal::Ended {
-                    section: 8,
-                    place: d.at,
-                });
-            };
-            let cases = bits_of(0x8000_0000, packed) & 0xFFFF;
-            HeadRead::Got {
-                handler: Handler {
-                    offset: four.first.value,
-                    begin: four.second.value,
-                    end: four.third.value,
-                    descriptor: four.fourth.value,
-                    cases: (cases + 1) as i32,
-                },
-                next,
-            }
-        }
-    }
+    ((bits_of(0x8000_0000, packed) & 0xFFFF) + 1) as i32
+}
+
+#[tactic(auto, unfolding(format::specs::Sections::head_at))]
+pub fn read_head(file: &[u8], c: Cursor) -> Result<(Handler, Cursor), Refusal>
+    ensures { as_step result ≡ head_at file.now c }
+{
+    let (four, d) = read_four(file, 8, c)?;
+    let Some((packed, next)) = read_operand(file, d) else {
+        return Err(Refusal::ended(8, d));
+    };
+    Ok((
+        Handler {
+            offset: four.first.value,
+            begin: four.second.value,
+            end: four.third.value,
+            descriptor: four.fourth.value,
+            cases: cases_of(packed),
+        },
+        next,
+    ))
 }

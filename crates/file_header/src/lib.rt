@@ -1,47 +1,31 @@
 // 1, the header.
 #![tactic(auto)]
 
-ghost use Rattle.std.specs.Prelude.{◌≡◌, ◌≤◌, length};
-ghost use Rattle.format.specs.Records.{size_limit};
+ghost use Rattle.std.specs.Prelude.{◌≡◌};
 ghost use Rattle.format.specs.Sections.{signature_for, header_of, header_at};
-ghost use Rattle.file_pieces.specs.View.{span_step};
-ghost use Rattle.file_header.specs.View.{header_read};
+ghost use Rattle.law_format.specs.Views.{as_step};
 
-use file_pieces::{FourRead, SpanStep, read_four, read_sized};
+use file_pieces::{read_four, read_sized};
 use format::module::{Header, PlacedHeader, SMAGIC, XMAGIC};
 use format::refusal::Refusal;
-use format::types::{Cursor, FourPlaced, Span};
-use reader::{NumberRead, read_operand};
-
-#[derive(Clone, Copy)]
-pub enum HeaderRead {
-    Got { header: PlacedHeader, next: Cursor },
-    Refused(Refusal),
-}
+use format::types::{Cursor, File, FourPlaced, Span};
+use reader::read_operand;
 
 // Nothing under the plain magic, a counted span under the other.
-pub fn read_signature(file: &[u8], magic: i32, c: Cursor) -> SpanStep
-    requires { length file.now ≤ size_limit }
-    ensures { span_step result ≡ signature_for file.now magic c }
+#[tactic(auto, unfolding(format::specs::Sections::signature_for))]
+pub fn read_signature(file: File, magic: i32, c: Cursor) -> Result<(Span, Cursor), Refusal>
+    ensures { as_step result ≡ signature_for file.entry.bytes.now magic c }
 {
-    if magic == XMAGIC {
-        return SpanStep::Got {
-            span: Span { start: 0, len: 0 },
-            next: c,
-        };
+    match magic {
+        XMAGIC => Ok((Span { start: 0, len: 0 }, c)),
+        SMAGIC => read_sized(file, 1, c),
+        value => Err(Refusal::BadMagic { value }),
     }
-    if magic == SMAGIC {
-        return read_sized(file, 1, c);
-    }
-    SpanStep::Refused(Refusal::BadMagic { value: magic })
 }
 
 fn header_of(magic: i32, signature: Span, a: FourPlaced, b: FourPlaced) -> PlacedHeader
     ensures { result ≡ header_of magic signature a b }
 {
-    let code = a.third;
-    let types = b.first;
-    let exports = b.second;
     PlacedHeader {
         header: Header {
             magic,
@@ -55,40 +39,21 @@ fn header_of(magic: i32, signature: Span, a: FourPlaced, b: FourPlaced) -> Place
             entry_pc: b.third.value,
             entry_type: b.fourth.value,
         },
-        code,
-        types,
-        exports,
+        code: a.third,
+        types: b.first,
+        exports: b.second,
     }
 }
 
-pub fn read_header(file: &[u8], c: Cursor) -> HeaderRead
-    requires { length file.now ≤ size_limit }
-    ensures { header_read result ≡ header_at file.now c }
+#[tactic(auto, unfolding(format::specs::Sections::header_at))]
+pub fn read_header(file: File, c: Cursor) -> Result<(PlacedHeader, Cursor), Refusal>
+    ensures { as_step result ≡ header_at file.entry.bytes.now c }
 {
-    let NumberRead::Got {
-        value: magic,
-        next: d,
-    } = read_operand(file, c)
-    else {
-        return HeaderRead::Refused(Refusal::Ended {
-            section: 1,
-            place: c.at,
-        });
+    let Some((magic, d)) = read_operand(file.bytes, c) else {
+        return Err(Refusal::ended(1, c));
     };
-    match read_signature(file, magic, d) {
-        SpanStep::Refused(why) => HeaderRead::Refused(why),
-        SpanStep::Got {
-            span: signature,
-            next: e,
-        } => match read_four(file, 1, e) {
-            FourRead::Refused(why) => HeaderRead::Refused(why),
-            FourRead::Got { four: a, next: f } => match read_four(file, 1, f) {
-                FourRead::Refused(why) => HeaderRead::Refused(why),
-                FourRead::Got { four: b, next } => HeaderRead::Got {
-                    header: header_of(magic, signature, a, b),
-                    next,
-                },
-            },
-        },
-    }
+    let (signature, e) = read_signature(file, magic, d)?;
+    let (a, f) = read_four(file.bytes, 1, e)?;
+    let (b, next) = read_four(file.bytes, 1, f)?;
+    Ok((header_of(magic, signature, a, b), next))
 }

@@ -1,9 +1,7 @@
 -- K1 to K15: one test of the definitions, which antt computes over one table.
 -- Assumes nothing.
-use Rattle.std.specs.Prelude.{ℕ, Bool, true, false, ◌&&◌, List, [], ◌∷◌, ◌++◌, map, T, eqb, ℤ, pos, neg_ℤ, length}
-use Rattle.format.specs.Types.{LoadAnswer, WriteAnswer}
-use Rattle.format.specs.declared.module.LoadAnswer.TheVariants.{Loaded, Refused}
-use Rattle.format.specs.declared.module.WriteAnswer.TheVariants as W
+use Rattle.std.specs.Prelude.{ℕ, Ok, Err, Bool, true, false, ◌&&◌, List, [], ◌∷◌, ◌++◌, map, T, eqb, ℤ, pos, neg_ℤ, length}
+use Rattle.format.specs.Answers.{LoadAnswer, WriteAnswer}
 use Rattle.format.specs.Reading.{Read, found, short, front}
 use Rattle.format.specs.Operands.{operand_at, encode_operand, shown, all_same, same_bytes}
 use Rattle.bits.specs.Bits.{same_z}
@@ -20,15 +18,15 @@ reads_as short v n = false
 
 writes_as : WriteAnswer × List ℕ → List ℕ → Bool
 unfolding same_bytes
-writes_as (W.Written n, out) bytes = eqb n (length bytes) && same_bytes out bytes
-writes_as (W.Refused r, out) bytes = false
+writes_as (Ok n, out) bytes = eqb n (length bytes) && same_bytes out bytes
+writes_as (Err r, out) bytes = false
 
 loads_as : LoadAnswer × List ℤ → List ℕ → ℕ → List ℤ → List ℕ → List ℕ → Bool
 unfolding same_bytes writes_as
-loads_as (Loaded m used needed, table) file n words name back =
-    eqb used n && eqb needed (length words) && all_same same_z table words && same_bytes (shown file m.name) name
-    && writes_as (run_write m file table (map (λ b. 9) back)) back
-loads_as (Refused r, table) file n words name back = false
+loads_as (Ok l, table) file n words name back =
+    eqb l.used n && eqb l.needed (length words) && all_same same_z table words && same_bytes (shown file l.«module».name) name
+    && writes_as (run_write l.«module» file table (map (λ b. 9) back)) back
+loads_as (Err r, table) file n words name back = false
 
 right : Row → Bool
 unfolding reads_as loads_as same_bytes

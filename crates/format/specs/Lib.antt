@@ -1,4 +1,6 @@
+pub mod Limits
 pub mod Types
+pub mod Answers
 pub mod Refusals
 pub mod Reading
 pub mod Operands
@@ -14,3 +16,4 @@ pub mod Writing
 pub mod Walk
 pub mod Run
 pub mod Known
+pub mod Views

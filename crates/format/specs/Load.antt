@@ -1,7 +1,7 @@
 -- What loading answers, and what the lent words hold then.
-use Rattle.std.specs.Prelude.{ℕ, cond, List, leb, ℤ, length}
-use Rattle.format.specs.Types.{Cursor, TooLarge, FewWords, LoadAnswer}
-use Rattle.format.specs.declared.module.LoadAnswer.TheVariants.{Loaded, Refused}
+use Rattle.std.specs.Prelude.{ℕ, Err, cond, List, leb, ℤ, length}
+use Rattle.format.specs.Types.{Cursor, TooLarge, FewWords}
+use Rattle.format.specs.Answers.{LoadAnswer, loaded}
 use Rattle.format.specs.Reading.{Step, got, refused, Reads, ◌>>=◌, ◌>>◌, give, check, sound, front}
 use Rattle.format.specs.Records.{Records, module_of, size_limit}
 use Rattle.format.specs.Sections.{parse}
@@ -19,11 +19,11 @@ accept file = do
 
 -- 20, or the words
 unfoldable pub filled : List ℤ → Step Cursor Records → LoadAnswer × List ℤ
-filled words (refused r) = (Refused r, words)
+filled words (refused r) = (Err r, words)
 filled words (got records end) =
     cond (leb (words_needed records) (length words))
-    (Loaded (module_of records) end.at (words_needed records), put 0 (table_words records) words)
-    (Refused (FewWords (words_needed records)), words)
+    (loaded (module_of records) end.at (words_needed records), put 0 (table_words records) words)
+    (Err (FewWords (words_needed records)), words)
 
 unfoldable pub load_of : List ℕ → List ℤ → LoadAnswer × List ℤ
 load_of file words = filled words (accept file front)

@@ -10,13 +10,7 @@ use Rattle.format.specs.declared.module.DataKind.TheVariants.{Bytes, Words, Stri
 use Rattle.format.specs.declared.module.Shape.TheVariants as S
 use Rattle.format.specs.declared.module.Flag.TheVariants.{MustCompile, DontCompile, HasHandler, HasImport}
 use Rattle.bits.specs.Bits.{bits_of}
-
--- refusal 1's limit, and how many words are looked at
-abbrev pub size_limit : ℕ
-size_limit = 16777216
-
-abbrev pub word_limit : ℕ
-word_limit = 75497472
+pub use Rattle.format.specs.Limits.{size_limit, word_limit}
 
 -- a handler and its cases
 abbrev pub Handled : Type 0

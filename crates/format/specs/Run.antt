@@ -1,7 +1,8 @@
 -- The definitions, opened: they compute on what is written out. For the tests only.
 use Rattle.std.specs.Prelude.{ℕ, List, ℤ}
 use Rattle.std.specs.Int.Count.{ones_in, ones}
-use Rattle.format.specs.Types.{Module, LoadAnswer, WriteAnswer}
+use Rattle.format.specs.Types.{Module}
+use Rattle.format.specs.Answers.{LoadAnswer, WriteAnswer}
 use Rattle.format.specs.Reading.{Step, many, until_none}
 use Rattle.format.specs.Operands.{byte_at, operand_at, word_at, span_at, name_at, zero_in, shown, encode_operand, encode_word}
 use Rattle.format.specs.Records.{Records, module_of, has, addressing_byte, ones_of}

@@ -1,14 +1,14 @@
 -- The walk: what each event makes of a state.
-use Rattle.std.specs.Prelude.{ℕ, Bool, true, cond, ◌&&◌, ◌||◌, List, [], ◌∷◌, eqb, ℤ, pos, negsuc, length}
+use Rattle.std.specs.Prelude.{ℕ, Ok, Bool, true, cond, ◌&&◌, ◌||◌, List, [], ◌∷◌, eqb, ℤ, pos, negsuc, length}
 use Rattle.std.proofs.Math.Option.{Option, none, some}
 use Rattle.std.proofs.Math.IntN.{suc_ℤ}
 use Rattle.std.proofs.Math.ListN.{get_elem?}
 use Rattle.std.specs.Int.Signed.{lt_z, le_z}
-use Rattle.format.specs.Types.{Header, ExportEntry, Handler, ExceptionCase, Module, NoExport, Frame, State, WalkAnswer}
+use Rattle.format.specs.Types.{Header, ExportEntry, Handler, ExceptionCase, Module, NoExport, Frame, State}
 use Rattle.format.specs.declared.walk.Frame.TheVariants as F
 use Rattle.format.specs.declared.walk.Stop.TheVariants.{NoEntry, NoCode, EndOfCode, Uncaught, NoCatchAll}
 use Rattle.format.specs.declared.walk.State.TheVariants.{Idle, At, Stopped, Broken}
-use Rattle.format.specs.declared.walk.WalkAnswer.TheVariants.{Walked, Refused}
+use Rattle.format.specs.Answers.{WalkAnswer, stayed}
 use Rattle.format.specs.Reading.{Step, got, refused}
 use Rattle.format.specs.Operands.{shown, same_bytes}
 use Rattle.format.specs.Records.{Handled, Records}
@@ -56,8 +56,8 @@ module _ (code_size_of type_size_of : ℕ) where
 
   -- export k, if there is one
   abbrev pub export_or : State → ℕ → Option ExportEntry → WalkAnswer
-  export_or s k (some e) = Walked (exported e)
-  export_or s k none = Refused (NoExport k) s
+  export_or s k (some e) = Ok (exported e)
+  export_or s k none = stayed (NoExport k) s
 
 -- ---- next
 
@@ -108,16 +108,16 @@ module _ (file : List ℕ) (r : Records) where
   type_size_of = length r.types
 
   unfoldable pub moved : Event → State → WalkAnswer
-  moved entry s = Walked (entered code_size_of type_size_of r.header)
+  moved entry s = Ok (entered code_size_of type_size_of r.header)
   moved (export k) s = export_or code_size_of type_size_of s k (get_elem? r.exports k)
-  moved next s = Walked (from_there code_size_of type_size_of (advanced code_size_of) s)
-  moved (raise name) s = Walked (from_there code_size_of type_size_of (λ pc frame. first_handler code_size_of type_size_of file name pc r.handlers) s)
+  moved next s = Ok (from_there code_size_of type_size_of (advanced code_size_of) s)
+  moved (raise name) s = Ok (from_there code_size_of type_size_of (λ pc frame. first_handler code_size_of type_size_of file name pc r.handlers) s)
 
 -- ---- in lent tables: 1, 22, then 25, and a refusal hands the state back unchanged
 
 abbrev pub in_tables : State → Step ℕ Records → (Records → WalkAnswer) → WalkAnswer
 in_tables s (got r w) k = k r
-in_tables s (refused why) k = Refused why s
+in_tables s (refused why) k = stayed why s
 
 unfoldable pub walk_of : Module → List ℕ → List ℤ → Event → State → WalkAnswer
 walk_of m file words event s = in_tables s (records_of m file words) (λ r. moved file r event s)

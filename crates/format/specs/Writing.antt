@@ -1,8 +1,8 @@
 -- What writing answers, and what the output holds then.
-use Rattle.std.specs.Prelude.{ℕ, ◌+◌, ◌-◌, ◌*◌, cond, ◌&&◌, ◌||◌, List, [], ◌∷◌, ◌++◌, map, leb, eqb, ℤ, pos, negsuc, length}
+use Rattle.std.specs.Prelude.{ℕ, Ok, Err, ◌+◌, ◌-◌, ◌*◌, cond, ◌&&◌, ◌||◌, List, [], ◌∷◌, ◌++◌, map, leb, eqb, ℤ, pos, negsuc, length}
 use Rattle.std.proofs.Math.Option.{Option, none}
-use Rattle.format.specs.Types.{Operand, MiddleOperand, Instruction, Module, Refusal, TooLarge, WideOperand, NoFlag, ShortOutput, WriteAnswer}
-use Rattle.format.specs.declared.module.WriteAnswer.TheVariants.{Written, Refused}
+use Rattle.format.specs.Types.{Operand, MiddleOperand, Instruction, Module, Refusal, TooLarge, WideOperand, NoFlag, ShortOutput}
+use Rattle.format.specs.Answers.{WriteAnswer}
 use Rattle.format.specs.Reading.{Step, got, refused, Reads, ◌>>=◌, ◌>>◌, give, check, sound}
 use Rattle.format.specs.Operands.{in30bits, encode_operand, encode_word}
 use Rattle.format.specs.Records.{Records, size_limit, has, by_mode, by_middle, addressing_byte, kind_number}
@@ -142,8 +142,8 @@ module _ (m : Module) (file : List ℕ) (words : List ℤ) where
     give bytes
 
 unfoldable pub written : List ℕ → Step ℕ (List ℕ) → WriteAnswer × List ℕ
-written out (refused r) = (Refused r, out)
-written out (got bytes w) = (Written (length bytes), put 0 bytes out)
+written out (refused r) = (Err r, out)
+written out (got bytes w) = (Ok (length bytes), put 0 bytes out)
 
 unfoldable pub write_of : Module → List ℕ → List ℤ → List ℕ → WriteAnswer × List ℕ
 write_of m file words out = written out (bytes_of m file words (length out) 0)

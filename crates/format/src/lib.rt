@@ -4,6 +4,7 @@
 pub mod instruction;
 pub mod module;
 pub mod opcode;
+pub mod put;
 pub mod refusal;
 pub mod types;
 pub mod walk;

@@ -1,5 +1,9 @@
 // module.rs: the header, the records of each section, and what comes beside the table words.
-use crate::refusal::Refusal;
+ghost use Rattle.std.specs.Prelude.{◌≡◌};
+ghost use Rattle.format.specs.Records.{kind_of, kind_number};
+ghost use Rattle.format.specs.Views.{if_ok};
+
+use crate::instruction::Unknown;
 use crate::types::{Placed, Span};
 
 pub const XMAGIC: i32 = 0x0C8030;
@@ -72,11 +76,42 @@ pub enum DataKind {
     Bigs,
 }
 
-// The kind that a number says, where it says one.
-#[derive(Clone, Copy)]
-pub enum MaybeDataKind {
-    Is(DataKind),
-    Unknown,
+impl TryFrom<u8> for DataKind {
+    type Error = Unknown;
+
+    ghost try_from_gives = { λ n r. if_ok r ≡ kind_of n };
+
+    fn try_from(n: u8) -> Result<Self, Unknown> {
+        match n {
+            0 => Err(Unknown),
+            1 => Ok(DataKind::Bytes),
+            2 => Ok(DataKind::Words),
+            3 => Ok(DataKind::String),
+            4 => Ok(DataKind::Reals),
+            5 => Ok(DataKind::Array),
+            6 => Ok(DataKind::SetArray),
+            7 => Ok(DataKind::Restore),
+            8 => Ok(DataKind::Bigs),
+            9..=255 => Err(Unknown),
+        }
+    }
+}
+
+impl From<DataKind> for u8 {
+    ghost from_gives = { λ kind n. n ≡ kind_number kind };
+
+    fn from(kind: DataKind) -> u8 {
+        match kind {
+            DataKind::Bytes => 1,
+            DataKind::Words => 2,
+            DataKind::String => 3,
+            DataKind::Reals => 4,
+            DataKind::Array => 5,
+            DataKind::SetArray => 6,
+            DataKind::Restore => 7,
+            DataKind::Bigs => 8,
+        }
+    }
 }
 
 // What the value of a kind is: counted bytes, counted elements of so many words, one thing of so many words, or nothing.
@@ -125,6 +160,13 @@ pub struct ExceptionCase {
     pub pc: i32,
 }
 
+// How many instructions and types a module has: what a pc, a frame type and a handler are held against.
+#[derive(Clone, Copy)]
+pub struct Sizes {
+    pub code: usize,
+    pub types: usize,
+}
+
 // What comes beside the words.
 #[derive(Clone, Copy)]
 pub struct Module {
@@ -135,18 +177,10 @@ pub struct Module {
     pub handlers: i32,
 }
 
+// What an accepted load answers: what comes beside the words, how many bytes of the file were used, how many words were needed.
 #[derive(Clone, Copy)]
-pub enum LoadAnswer {
-    Loaded {
-        module: Module,
-        used: usize,
-        needed: usize,
-    },
-    Refused(Refusal),
-}
-
-#[derive(Clone, Copy)]
-pub enum WriteAnswer {
-    Written { used: usize },
-    Refused(Refusal),
+pub struct Loaded {
+    pub module: Module,
+    pub used: usize,
+    pub needed: usize,
 }

@@ -26,9 +26,9 @@ pub enum State {
     Broken,
 }
 
-// A refusal hands the state back.
+// A refused event, which hands the state back.
 #[derive(Clone, Copy)]
-pub enum WalkAnswer {
-    Walked(State),
-    Refused { why: Refusal, state: State },
+pub struct Stayed {
+    pub why: Refusal,
+    pub state: State,
 }

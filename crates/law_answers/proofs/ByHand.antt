@@ -11,10 +11,7 @@ use contract.Monad.{Fun, fact}
 use denote.Triple.Entry.{Args, Res}
 use denote.Triple.Clauses.{Ended, Clauses, AtExit}
 use borrow.Fn.World.{World}
-use Rattle.reader.specs.View.{byte_read, number_read, span_read}
-use Rattle.reader.specs.declared.ByteRead.TheVariants as B
-use Rattle.reader.specs.declared.NumberRead.TheVariants as N
-use Rattle.reader.specs.declared.SpanRead.TheVariants as S
+use Rattle.law_format.specs.Views.{as_read, part_read}
 use Rattle.lent.specs.declared.Reader.{Reader}
 use Rattle.lent.specs.contracts.Reader.new as new
 use Rattle.lent.specs.contracts.Reader.moved as moved
@@ -26,7 +23,7 @@ use Rattle.lent.specs.contracts.Reader.word as word
 use Rattle.lent.specs.contracts.Reader.name as name
 use Rattle.lent.specs.contracts.Reader.span as span
 use Rattle.law_answers.proofs.Once.{Once, one, one_viewed}
-use Rattle.law_answers.proofs.Views.{by_read, byte_kept, number_kept, span_got, span_kept}
+use Rattle.law_answers.proofs.Views.{by_read, read_kept, by_part, part_kept}
 
 module _ (T : Ended) where
   abbrev Lifetimes : Type 0
@@ -62,16 +59,16 @@ pub left_once : Promised left.ended (λ M 𝓤. left.clauses) (λ κs r v. r)
 left_once = record { Promise = _; says = λ w κs a g r v. refl; once = λ κs a r s v w p q. one p q }
 
 pub byte_once : Promised byte.ended (λ M 𝓤. byte.clauses) (λ κs r v. r)
-byte_once = record { Promise = _; says = λ w κs a g r v. refl; once = λ κs a r s v w p q. one_viewed byte_read (by_read B.Got B.Short) byte_kept r s p q }
+byte_once = record { Promise = _; says = λ w κs a g r v. refl; once = λ κs a r s v w p q. one_viewed as_read by_read read_kept r s p q }
 
 pub operand_once : Promised operand.ended (λ M 𝓤. operand.clauses) (λ κs r v. r)
-operand_once = record { Promise = _; says = λ w κs a g r v. refl; once = λ κs a r s v w p q. one_viewed number_read (by_read N.Got N.Short) number_kept r s p q }
+operand_once = record { Promise = _; says = λ w κs a g r v. refl; once = λ κs a r s v w p q. one_viewed as_read by_read read_kept r s p q }
 
 pub word_once : Promised word.ended (λ M 𝓤. word.clauses) (λ κs r v. r)
-word_once = record { Promise = _; says = λ w κs a g r v. refl; once = λ κs a r s v w p q. one_viewed number_read (by_read N.Got N.Short) number_kept r s p q }
+word_once = record { Promise = _; says = λ w κs a g r v. refl; once = λ κs a r s v w p q. one_viewed as_read by_read read_kept r s p q }
 
 pub name_once : Promised name.ended (λ M 𝓤. name.clauses) (λ κs r v. r)
-name_once = record { Promise = _; says = λ w κs a g r v. refl; once = λ κs a r s v w p q. one_viewed span_read (by_read span_got S.Short) span_kept r s p q }
+name_once = record { Promise = _; says = λ w κs a g r v. refl; once = λ κs a r s v w p q. one_viewed part_read by_part part_kept r s p q }
 
 pub span_once : Promised span.ended (λ M 𝓤. span.clauses) (λ κs r v. r)
-span_once = record { Promise = _; says = λ w κs a g r v. refl; once = λ κs a r s v w p q. one_viewed span_read (by_read span_got S.Short) span_kept r s p q }
+span_once = record { Promise = _; says = λ w κs a g r v. refl; once = λ κs a r s v w p q. one_viewed part_read by_part part_kept r s p q }

@@ -4,28 +4,10 @@ use Prim.Native.Nat.{ℕ}
 use mathlib.Core.List.{List}
 use lib.IntN.{ℤ}
 use Rattle.law_format.proofs.Types.{LoadAnswer, WriteAnswer}
-use Rattle.format.specs.declared.instruction.MaybeAddressMode.TheVariants as MA
-use Rattle.format.specs.declared.instruction.MaybeMiddleMode.TheVariants as MM
-use Rattle.format.specs.declared.module.MaybeDataKind.TheVariants as MK
+use Rattle.format.specs.Views.{if_ok}
 use Rattle.format.specs.Words.{instruction_width}
-use Rattle.values.specs.View.{maybe_mode, maybe_middle, maybe_kind}
-use Rattle.reader.specs.View.{byte_read, number_read, span_read}
-use Rattle.reader.specs.declared.ByteRead.TheVariants as B
-use Rattle.reader.specs.declared.NumberRead.TheVariants as N
-use Rattle.reader.specs.declared.SpanRead.TheVariants as S
-use Rattle.table_code.specs.View.{instruction_step, good_end}
-use Rattle.table_code.specs.declared.InstructionFrom.TheVariants as InstructionFromIs
-use Rattle.table_types.specs.View.{type_step}
-use Rattle.table_types.specs.declared.TypeFrom.TheVariants as TypeFromIs
-use Rattle.table_data.specs.View.{item_step}
-use Rattle.table_data.specs.declared.ItemFrom.TheVariants as ItemFromIs
-use Rattle.table_names.specs.View.{export_step, function_step, function_count_step}
-use Rattle.table_names.specs.declared.ExportFrom.TheVariants as ExportFromIs
-use Rattle.table_names.specs.declared.FunctionFrom.TheVariants as FunctionFromIs
-use Rattle.table_names.specs.declared.FunctionCountFrom.TheVariants as FunctionCountFromIs
-use Rattle.table_handlers.specs.View.{handler_step, case_step}
-use Rattle.table_handlers.specs.declared.HandlerFrom.TheVariants as HandlerFromIs
-use Rattle.table_handlers.specs.declared.CaseFrom.TheVariants as CaseFromIs
+use Rattle.law_format.specs.Views.{as_read, part_read, record_at}
+use Rattle.table_code.specs.View.{good_end}
 use Rattle.load.proofs.load.Reads as load
 use Rattle.write.proofs.write.Reads as write
 use Rattle.walk.proofs.entry.Reads as entry
@@ -41,17 +23,17 @@ use Rattle.spans.proofs.name.Reads as name
 use Rattle.spans.proofs.count_pointers.Reads as count-pointers
 use Rattle.write_pieces.proofs.operand.operand_len.Reads as operand-len
 use Rattle.values.proofs.opcode.is_opcode.Reads as is-opcode
-use Rattle.values.proofs.instruction.address_mode.Reads as address-mode
-use Rattle.values.proofs.instruction.mode_number.Reads as mode_number_lem
-use Rattle.values.proofs.instruction.middle_mode.Reads as middle-mode
-use Rattle.values.proofs.instruction.middle_number.Reads as middle_number_lem
-use Rattle.values.proofs.instruction.addressing_of.Reads as addressing-of
+use Rattle.format.proofs.instruction.AddressModeTryFromU8.try_from.Reads as address-mode
+use Rattle.format.proofs.instruction.U8FromAddressMode.from.Reads as mode_number_lem
+use Rattle.format.proofs.instruction.MiddleModeTryFromU8.try_from.Reads as middle-mode
+use Rattle.format.proofs.instruction.U8FromMiddleMode.from.Reads as middle_number_lem
+use Rattle.format.proofs.instruction.AddressingFromU8.from.Reads as addressing-of
 use Rattle.values.proofs.instruction.addressing_byte.Reads as addressing-byte
 use Rattle.values.proofs.module.contains.Reads as contains
-use Rattle.values.proofs.module.data_kind.Reads as data-kind
-use Rattle.values.proofs.module.kind_number.Reads as kind-number
+use Rattle.format.proofs.module.DataKindTryFromU8.try_from.Reads as data-kind
+use Rattle.format.proofs.module.U8FromDataKind.from.Reads as kind-number
 use Rattle.values.proofs.module.shape_of.Reads as shape_of
-use Rattle.format.proofs.refusal.numbers_of.Reads as NumbersOf
+use Rattle.format.proofs.refusal.NumberedFromRefusal.from.Reads as NumbersOf
 use Rattle.table_code.proofs.instruction_from.Reads as instruction-from
 use Rattle.table_code.proofs.good_instruction.Reads as good-instruction
 use Rattle.table_types.proofs.type_from.Reads as type-from
@@ -76,8 +58,13 @@ use Rattle.bits.proofs.as_natural.Reads as as-natural
 use Rattle.format.proofs.types.Cursor.front.Reads as cursor-front
 use Rattle.lent.proofs.first_operand.Reads as first-operand
 use Rattle.lent.proofs.left_at.Reads as left_at
+use Rattle.format.proofs.refusal.Refusal.ended.Reads as ended
+use Rattle.reasons.proofs.reason.Reads as reason
+use Rattle.reasons.proofs.place.Reads as place
+use Rattle.reasons.proofs.detail.Reads as detail
+use Rattle.reasons.proofs.section.Reads as section
 use Rattle.law_answers.proofs.Once.{Once, one, one_of, one_viewed}
-use Rattle.law_answers.proofs.Views.{by_read, byte_kept, number_kept, span_got, span_kept, by_option, mode_kept, middle_kept, kind_kept, by_step, by_end, good_kept, instruction_kept, type_kept, item_kept, export_kept, function_kept, function_count_kept, handler_kept, case_kept}
+use Rattle.law_answers.proofs.Views.{by_read, read_kept, by_part, part_kept, by_option, ok_kept, by_record, record_kept, by_end, good_kept}
 
 -- ---- the whole
 
@@ -122,19 +109,19 @@ dis_raise_once κs a r s v w p q = one_of p q
 -- ---- leaves
 
 pub read_byte_once : Once read_byte.Learnt (λ κs r v. r)
-read_byte_once κs a r s v w p q = one_viewed byte_read (by_read B.Got B.Short) byte_kept r s p q
+read_byte_once κs a r s v w p q = one_viewed as_read by_read read_kept r s p q
 
 pub read_operand_once : Once read-operand.Learnt (λ κs r v. r)
-read_operand_once κs a r s v w p q = one_viewed number_read (by_read N.Got N.Short) number_kept r s p q
+read_operand_once κs a r s v w p q = one_viewed as_read by_read read_kept r s p q
 
 pub read_word_once : Once read_word.Learnt (λ κs r v. r)
-read_word_once κs a r s v w p q = one_viewed number_read (by_read N.Got N.Short) number_kept r s p q
+read_word_once κs a r s v w p q = one_viewed as_read by_read read_kept r s p q
 
 pub read_name_once : Once read_name.Learnt (λ κs r v. r)
-read_name_once κs a r s v w p q = one_viewed span_read (by_read span_got S.Short) span_kept r s p q
+read_name_once κs a r s v w p q = one_viewed part_read by_part part_kept r s p q
 
 pub read_span_once : Once read-span.Learnt (λ κs r v. r)
-read_span_once κs a r s v w p q = one_viewed span_read (by_read span_got S.Short) span_kept r s p q
+read_span_once κs a r s v w p q = one_viewed part_read by_part part_kept r s p q
 
 -- the part itself: where it starts, and its bytes
 pub name_once : Once {S = (ℕ × ℕ) × List ℕ} name.Learnt (λ κs r v. (r.ref_ptr, r.now))
@@ -152,13 +139,13 @@ pub is_opcode_once : Once is-opcode.Learnt (λ κs r v. r)
 is_opcode_once κs a r s v w p q = one p q
 
 pub address_mode_once : Once address-mode.Learnt (λ κs r v. r)
-address_mode_once κs a r s v w p q = one_viewed maybe_mode (by_option MA.Is MA.Reserved) mode_kept r s p q
+address_mode_once κs a r s v w p q = one_viewed if_ok by_option ok_kept r s p q
 
 pub mode_number_once : Once mode_number_lem.Learnt (λ κs r v. r)
 mode_number_once κs a r s v w p q = one p q
 
 pub middle_mode_once : Once middle-mode.Learnt (λ κs r v. r)
-middle_mode_once κs a r s v w p q = one_viewed maybe_middle (by_option MM.Is MM.Reserved) middle_kept r s p q
+middle_mode_once κs a r s v w p q = one_viewed if_ok by_option ok_kept r s p q
 
 pub middle_number_once : Once middle_number_lem.Learnt (λ κs r v. r)
 middle_number_once κs a r s v w p q = one p q
@@ -173,7 +160,7 @@ pub contains_once : Once contains.Learnt (λ κs r v. r)
 contains_once κs a r s v w p q = one p q
 
 pub data_kind_once : Once data-kind.Learnt (λ κs r v. r)
-data_kind_once κs a r s v w p q = one_viewed maybe_kind (by_option MK.Is MK.Unknown) kind_kept r s p q
+data_kind_once κs a r s v w p q = one_viewed if_ok by_option ok_kept r s p q
 
 pub kind_number_once : Once kind-number.Learnt (λ κs r v. r)
 kind_number_once κs a r s v w p q = one p q
@@ -187,34 +174,34 @@ numbers_of_once κs a r s v w p q = one p q
 -- ---- records of the table words
 
 pub instruction_from_once : Once instruction-from.Learnt (λ κs r v. r)
-instruction_from_once κs a r s v w p q = one_viewed (instruction_step _) (by_step InstructionFromIs.Got InstructionFromIs.Bad) (instruction_kept _) r s p q
+instruction_from_once κs a r s v w p q = one_viewed (record_at _ _) by_record (record_kept _ _) r s p q
 
 pub good_instruction_once : Once good-instruction.Learnt (λ κs r v. r)
 good_instruction_once κs a r s v w p q = one_viewed (good_end instruction_width _) by_end (good_kept _) r s p q
 
 pub type_from_once : Once type-from.Learnt (λ κs r v. r)
-type_from_once κs a r s v w p q = one_viewed (type_step _) (by_step TypeFromIs.Got TypeFromIs.Bad) (type_kept _) r s p q
+type_from_once κs a r s v w p q = one_viewed (record_at _ _) by_record (record_kept _ _) r s p q
 
 pub item_from_once : Once item_from.Learnt (λ κs r v. r)
-item_from_once κs a r s v w p q = one_viewed (item_step _) (by_step ItemFromIs.Got ItemFromIs.Bad) (item_kept _) r s p q
+item_from_once κs a r s v w p q = one_viewed (record_at _ _) by_record (record_kept _ _) r s p q
 
 pub export_from_once : Once export-from.Learnt (λ κs r v. r)
-export_from_once κs a r s v w p q = one_viewed (export_step _) (by_step ExportFromIs.Got ExportFromIs.Bad) (export_kept _) r s p q
+export_from_once κs a r s v w p q = one_viewed (record_at _ _) by_record (record_kept _ _) r s p q
 
 pub function_from_once : Once function-from.Learnt (λ κs r v. r)
-function_from_once κs a r s v w p q = one_viewed (function_step _) (by_step FunctionFromIs.Got FunctionFromIs.Bad) (function_kept _) r s p q
+function_from_once κs a r s v w p q = one_viewed (record_at _ _) by_record (record_kept _ _) r s p q
 
 pub function_count_from_once : Once function-count-from.Learnt (λ κs r v. r)
-function_count_from_once κs a r s v w p q = one_viewed (function_count_step _) (by_step FunctionCountFromIs.Got FunctionCountFromIs.Bad) (function_count_kept _) r s p q
+function_count_from_once κs a r s v w p q = one_viewed (record_at _ _) by_record (record_kept _ _) r s p q
 
 pub handler_from_once : Once handler-from.Learnt (λ κs r v. r)
-handler_from_once κs a r s v w p q = one_viewed (handler_step _) (by_step HandlerFromIs.Got HandlerFromIs.Bad) (handler_kept _) r s p q
+handler_from_once κs a r s v w p q = one_viewed (record_at _ _) by_record (record_kept _ _) r s p q
 
 pub case_from_once : Once case-from.Learnt (λ κs r v. r)
-case_from_once κs a r s v w p q = one_viewed (case_step _) (by_step CaseFromIs.Got CaseFromIs.Bad) (case_kept _) r s p q
+case_from_once κs a r s v w p q = one_viewed (record_at _ _) by_record (record_kept _ _) r s p q
 
 pub last_from_once : Once last-from.Learnt (λ κs r v. r)
-last_from_once κs a r s v w p q = one_viewed (case_step _) (by_step CaseFromIs.Got CaseFromIs.Bad) (case_kept _) r s p q
+last_from_once κs a r s v w p q = one_viewed (record_at _ _) by_record (record_kept _ _) r s p q
 
 -- ---- numbers and cursors
 
@@ -239,7 +226,24 @@ cursor_front_once κs a r s v w p q = one p q
 -- ---- beside the Reader
 
 pub first_operand_once : Once first-operand.Learnt (λ κs r v. r)
-first_operand_once κs a r s v w p q = one_viewed number_read (by_read N.Got N.Short) number_kept r s p q
+first_operand_once κs a r s v w p q = one_viewed as_read by_read read_kept r s p q
 
 pub left_at_once : Once left_at.Learnt (λ κs r v. r)
 left_at_once κs a r s v w p q = one p q
+
+-- ---- refusals, and plain words for them
+
+pub ended_once : Once ended.Learnt (λ κs r v. r)
+ended_once κs a r s v w p q = one p q
+
+pub reason_once : Once {S = List ℕ} reason.Learnt (λ κs r v. r.now)
+reason_once κs a r s v w p q = one p q
+
+pub place_once : Once {S = List ℕ} place.Learnt (λ κs r v. r.now)
+place_once κs a r s v w p q = one p q
+
+pub detail_once : Once {S = List ℕ} detail.Learnt (λ κs r v. r.now)
+detail_once κs a r s v w p q = one p q
+
+pub section_once : Once {S = List ℕ} section.Learnt (λ κs r v. r.now)
+section_once κs a r s v w p q = one p q

@@ -10,8 +10,9 @@ use borrow.Author.Tests.{le-leb, lt-leb, leb-true}
 use lib.Dec.{leb}
 use lib.IntN.{ℤ}
 use lib.ListN.{length, drop}
-use Rattle.law_format.proofs.Types.{Cursor, Refusal, TooLarge, FewWords, Module, LoadAnswer}
-use Rattle.format.specs.declared.module.LoadAnswer.TheVariants.{Loaded, Refused}
+use Rattle.law_format.proofs.Types.{Cursor, Refusal, TooLarge, FewWords, Module, Loaded, LoadAnswer, loaded}
+use Rattle.std.specs.Prelude.{Err}
+use Rattle.law_format.proofs.Told.{ok_is}
 use Rattle.format.specs.Reading.{Step, got, refused, and_then, ◌>>◌, sound, give, front}
 use Rattle.format.specs.Put.{put}
 use Rattle.format.specs.Records.{Records, module_of, size_limit}
@@ -24,26 +25,26 @@ use Rattle.law_format.proofs.Moves.{parse_moves}
 use Rattle.law_format.proofs.Put.{drop-put}
 
 module _ (file : List ℕ) (words : List ℤ) where
-  pub load_large : size_limit < length file → load_of file words ≡ (Refused TooLarge, words)
+  pub load_large : size_limit < length file → load_of file words ≡ (Err TooLarge, words)
   unfolding load_of accept filled
   load_large h = rw (lt-leb (length file) size_limit h)
 
   module _ (small : length file ≤ size_limit) where
-    pub load_parse : {why : Refusal} → parse file front ≡ refused why → load_of file words ≡ (Refused why, words)
+    pub load_parse : {why : Refusal} → parse file front ≡ refused why → load_of file words ≡ (Err why, words)
     unfolding load_of accept filled
     load_parse e = rw (le-leb (length file) size_limit small, e)
 
     module _ {r : Records} {q : Cursor} (e : parse file front ≡ got r q) where
-      pub load_fault : {why : Refusal} → fault_in r ≡ some why → load_of file words ≡ (Refused why, words)
+      pub load_fault : {why : Refusal} → fault_in r ≡ some why → load_of file words ≡ (Err why, words)
       unfolding load_of accept filled
       load_fault f = rw (le-leb (length file) size_limit small, e, f)
 
-      pub load_few : fault_in r ≡ none → length words < words_needed r → load_of file words ≡ (Refused (FewWords (words_needed r)), words)
+      pub load_few : fault_in r ≡ none → length words < words_needed r → load_of file words ≡ (Err (FewWords (words_needed r)), words)
       unfolding load_of accept filled
       load_few f h = rw (le-leb (length file) size_limit small, e, f, lt-leb (words_needed r) (length words) h)
 
       pub load_whole : fault_in r ≡ none → words_needed r ≤ length words
-          → load_of file words ≡ (Loaded (module_of r) q.at (words_needed r), put 0 (table_words r) words)
+          → load_of file words ≡ (loaded (module_of r) q.at (words_needed r), put 0 (table_words r) words)
       unfolding load_of accept filled
       load_whole f h = rw (le-leb (length file) size_limit small, e, f, le-leb (words_needed r) (length words) h)
 
@@ -54,18 +55,18 @@ Answer = LoadAnswer × List ℤ
 
 module _ (words : List ℤ) where
   fill_refused : (r : Records) (q : Cursor) (t : Bool) {why : Refusal} {now : List ℤ}
-      → ◌≡◌ {A = Answer} (cond t (Loaded (module_of r) q.at (words_needed r), put 0 (table_words r) words) (Refused (FewWords (words_needed r)), words)) (Refused why, now)
+      → ◌≡◌ {A = Answer} (cond t (loaded (module_of r) q.at (words_needed r), put 0 (table_words r) words) (Err (FewWords (words_needed r)), words)) (Err why, now)
       → now ≡ words
-  fill_refused r q true e = let z : ◌≡◌ {A = LoadAnswer} (Loaded (module_of r) q.at (words_needed r)) (Refused _) = ap (λ (a : Answer). a.0) e in cc
+  fill_refused r q true e = let z : ◌≡◌ {A = LoadAnswer} (loaded (module_of r) q.at (words_needed r)) (Err _) = ap (λ (a : Answer). a.0) e in cc
   fill_refused r q false e = sym (ap (λ (a : Answer). a.1) e)
 
-  refused_by : (s : Step Cursor Records) {why : Refusal} {now : List ℤ} → filled words s ≡ (Refused why, now) → now ≡ words
+  refused_by : (s : Step Cursor Records) {why : Refusal} {now : List ℤ} → filled words s ≡ (Err why, now) → now ≡ words
   unfolding filled
   refused_by (refused r) e = sym (ap (λ (a : Answer). a.1) e)
   refused_by (got r q) e = fill_refused r q (leb (words_needed r) (length words)) e
 
   -- a refused load leaves the words as lent
-  pub refused_leaves : (file : List ℕ) {why : Refusal} {now : List ℤ} → load_of file words ≡ (Refused why, now) → now ≡ words
+  pub refused_leaves : (file : List ℕ) {why : Refusal} {now : List ℤ} → load_of file words ≡ (Err why, now) → now ≡ words
   unfolding load_of
   refused_leaves file e = refused_by (accept file front) e
 
@@ -99,10 +100,11 @@ module _ (file : List ℕ) where
 module _ (file : List ℕ) (words : List ℤ) where
   fill_loaded : (r : Records) (q : Cursor) → accept file front ≡ got r q → (t : Bool) → leb (words_needed r) (length words) ≡ t
       → {m : Module} {used needed : ℕ} {now : List ℤ}
-      → ◌≡◌ {A = Answer} (cond t (Loaded (module_of r) q.at (words_needed r), put 0 (table_words r) words) (Refused (FewWords (words_needed r)), words)) (Loaded m used needed, now)
+      → ◌≡◌ {A = Answer} (cond t (loaded (module_of r) q.at (words_needed r), put 0 (table_words r) words) (Err (FewWords (words_needed r)), words)) (loaded m used needed, now)
       → Accepted file words m used needed now
   fill_loaded r q a true h e =
-      let i : ◌≡◌ {A = LoadAnswer} (Loaded (module_of r) q.at (words_needed r)) (Loaded _ _ _) = ap (λ (x : Answer). x.0) e in
+      let i : ◌≡◌ {A = LoadAnswer} (loaded (module_of r) q.at (words_needed r)) (loaded _ _ _) = ap (λ (x : Answer). x.0) e in
+      let l = ok_is i in
       let p = accepted_by file (leb (length file) size_limit) refl r q a in
       record {
         records = r;
@@ -110,21 +112,21 @@ module _ (file : List ℕ) (words : List ℤ) where
         small = p.0;
         reads = p.1;
         faultless = p.2;
-        beside = cc;
-        bytes = cc;
-        need = cc;
+        beside = ap (λ (x : Loaded). x.«module») (sym l);
+        bytes = ap (λ (x : Loaded). x.used) (sym l);
+        need = ap (λ (x : Loaded). x.needed) (sym l);
         room = leb-true (words_needed r) (length words) h;
         holds = sym (ap (λ (x : Answer). x.1) e);
       }
-  fill_loaded r q a false h e = let i : ◌≡◌ {A = LoadAnswer} (Refused (FewWords (words_needed r))) (Loaded _ _ _) = ap (λ (x : Answer). x.0) e in let z : ◌≡◌ {A = ℕ} 0 1 = cc in absurd (omega arith)
+  fill_loaded r q a false h e = let i : ◌≡◌ {A = LoadAnswer} (Err (FewWords (words_needed r))) (loaded _ _ _) = ap (λ (x : Answer). x.0) e in let z : ◌≡◌ {A = ℕ} 0 1 = cc in absurd (omega arith)
 
   loaded_by : (s : Step Cursor Records) → accept file front ≡ s → {m : Module} {used needed : ℕ} {now : List ℤ}
-      → filled words s ≡ (Loaded m used needed, now) → Accepted file words m used needed now
+      → filled words s ≡ (loaded m used needed, now) → Accepted file words m used needed now
   unfolding filled
-  loaded_by (refused r) a e = let i : ◌≡◌ {A = LoadAnswer} (Refused r) (Loaded _ _ _) = ap (λ (x : Answer). x.0) e in let z : ◌≡◌ {A = ℕ} 0 1 = cc in absurd (omega arith)
+  loaded_by (refused r) a e = let i : ◌≡◌ {A = LoadAnswer} (Err r) (loaded _ _ _) = ap (λ (x : Answer). x.0) e in let z : ◌≡◌ {A = ℕ} 0 1 = cc in absurd (omega arith)
   loaded_by (got r q) a e = fill_loaded r q a (leb (words_needed r) (length words)) refl e
 
-  pub accepted : {m : Module} {used needed : ℕ} {now : List ℤ} → load_of file words ≡ (Loaded m used needed, now) → Accepted file words m used needed now
+  pub accepted : {m : Module} {used needed : ℕ} {now : List ℤ} → load_of file words ≡ (loaded m used needed, now) → Accepted file words m used needed now
   unfolding load_of
   accepted e = loaded_by (accept file front) refl e
 

@@ -9,14 +9,11 @@ pub use Rattle.format.specs.declared.instruction.MiddleMode.{MiddleMode}
 pub use Rattle.format.specs.declared.instruction.Operand.{Operand}
 pub use Rattle.format.specs.declared.instruction.MiddleOperand.{MiddleOperand}
 pub use Rattle.format.specs.declared.instruction.Instruction.{Instruction}
-pub use Rattle.format.specs.declared.instruction.MaybeAddressMode.{MaybeAddressMode}
-pub use Rattle.format.specs.declared.instruction.MaybeMiddleMode.{MaybeMiddleMode}
 pub use Rattle.format.specs.declared.instruction.Addressing.{Addressing}
 pub use Rattle.format.specs.declared.module.Header.{Header}
 pub use Rattle.format.specs.declared.module.PlacedHeader.{PlacedHeader}
 pub use Rattle.format.specs.declared.module.Flag.{Flag}
 pub use Rattle.format.specs.declared.module.DataKind.{DataKind}
-pub use Rattle.format.specs.declared.module.MaybeDataKind.{MaybeDataKind}
 pub use Rattle.format.specs.declared.module.Shape.{Shape}
 pub use Rattle.format.specs.declared.module.DataItem.{DataItem}
 pub use Rattle.format.specs.declared.module.ExportEntry.{ExportEntry}
@@ -24,14 +21,14 @@ pub use Rattle.format.specs.declared.module.ImportEntry.{ImportEntry}
 pub use Rattle.format.specs.declared.module.Handler.{Handler}
 pub use Rattle.format.specs.declared.module.ExceptionCase.{ExceptionCase}
 pub use Rattle.format.specs.declared.module.Module.{Module}
-pub use Rattle.format.specs.declared.module.LoadAnswer.{LoadAnswer}
-pub use Rattle.format.specs.declared.module.WriteAnswer.{WriteAnswer}
+pub use Rattle.format.specs.declared.module.Loaded.{Loaded}
 pub use Rattle.format.specs.declared.walk.Frame.{Frame}
 pub use Rattle.format.specs.declared.walk.Stop.{Stop}
 pub use Rattle.format.specs.declared.walk.State.{State}
-pub use Rattle.format.specs.declared.walk.WalkAnswer.{WalkAnswer}
+pub use Rattle.format.specs.declared.walk.Stayed.{Stayed}
 pub use Rattle.format.specs.declared.refusal.Refusal.{Refusal}
 pub use Rattle.format.specs.declared.refusal.Numbered.{Numbered}
 pub use Rattle.format.specs.declared.refusal.Refusal.TheVariants.{TooLarge, Ended, BadMagic, NegativeCount, NegativeOffset, BadOpcode, BadMode, BadKind, NotClosed}
 pub use Rattle.format.specs.declared.refusal.Refusal.TheVariants.{EntryPc, EntryType, BothFlags, ExportPc, ExportFrame, HandlerBegin, HandlerEnd, HandlerRange, HandlerType, CasePc}
 pub use Rattle.format.specs.declared.refusal.Refusal.TheVariants.{FewWords, WideOperand, NotWellFormed, NoFlag, ShortOutput, NoExport}
+pub use Rattle.format.specs.Answers.{LoadAnswer, WriteAnswer, WalkAnswer, loaded, stayed}

@@ -5,7 +5,7 @@ use mathlib.Core.Path.{◌≡◌, fun_ext}
 use mathlib.Core.List.{List}
 use lib.IntN.{ℤ}
 use Rattle.law_format.proofs.Types.{Module, Refusal, State}
-use Rattle.format.specs.declared.walk.WalkAnswer.TheVariants.{Refused}
+use Rattle.format.specs.Answers.{stayed}
 use Rattle.format.specs.Reading.{got, refused}
 use Rattle.format.specs.Records.{Records}
 use Rattle.format.specs.WellFormed.{records_of}
@@ -16,6 +16,6 @@ module _ (m : Module) (file : List ℕ) (words : List ℤ) where
   unfolding walk_of
   walk_is e = fun_ext λ event. fun_ext λ s. rw e
 
-  pub walk_refused : {why : Refusal} → records_of m file words ≡ refused why → (event : Event) (s : State) → walk_of m file words event s ≡ Refused why s
+  pub walk_refused : {why : Refusal} → records_of m file words ≡ refused why → (event : Event) (s : State) → walk_of m file words event s ≡ stayed why s
   unfolding walk_of
   walk_refused e event s = rw e

@@ -6,15 +6,15 @@ use mathlib.Core.List.{List}
 use lib.IntN.{ℤ}
 use lib.ListN.{length}
 use Rattle.law_format.proofs.Types.{Module, WriteAnswer}
-use Rattle.format.specs.declared.module.WriteAnswer.TheVariants.{Written, Refused}
+use Rattle.std.specs.Prelude.{Ok, Err}
 use Rattle.format.specs.Reading.{Step, got, refused}
 use Rattle.format.specs.Put.{put}
 use Rattle.format.specs.Writing.{bytes_of, written, write_of}
 
 -- what the output holds, by the answer
 abbrev pub Leaves : List ℕ → List ℕ → WriteAnswer → Type 0
-Leaves out left (Refused why) = left ≡ out
-Leaves out left (Written n) = (bytes : List ℕ) × (length bytes ≡ n) × (left ≡ put 0 bytes out)
+Leaves out left (Err why) = left ≡ out
+Leaves out left (Ok n) = (bytes : List ℕ) × (length bytes ≡ n) × (left ≡ put 0 bytes out)
 
 module _ (out : List ℕ) where
   by_step : (s : Step ℕ (List ℕ)) → Leaves out (written out s).1 (written out s).0

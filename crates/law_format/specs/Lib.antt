@@ -1,3 +1,4 @@
 pub mod Cased
 pub mod Loops
 pub mod Passed
+pub mod Views

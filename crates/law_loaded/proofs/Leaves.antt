@@ -11,8 +11,8 @@ use lib.Dec.{leb}
 use lib.IntN.{ℤ}
 use lib.ListN.{length, drop}
 use Rattle.law_format.proofs.Types.{Cursor, Module, WriteAnswer, Refusal, TooLarge, ShortOutput}
-use Rattle.format.specs.declared.module.LoadAnswer.TheVariants.{Loaded}
-use Rattle.format.specs.declared.module.WriteAnswer.TheVariants.{Written, Refused}
+use Rattle.std.specs.Prelude.{Ok, Err}
+use Rattle.format.specs.Answers.{loaded}
 use Rattle.format.specs.Reading.{got, ◌>>◌, give, check, front}
 use Rattle.format.specs.Put.{put}
 use Rattle.format.specs.Records.{Records, size_limit, word_limit}
@@ -64,16 +64,16 @@ module _ {file : List ℕ} {words now : List ℤ} {m : Module} {used needed : �
     loaded_bytes room = rw (loaded_records, loaded_flags, loaded_narrow)
 
     module _ (out : List ℕ) where
-      pub loaded_large : size_limit < length result → write_of m file now out ≡ (Refused TooLarge, out)
+      pub loaded_large : size_limit < length result → write_of m file now out ≡ (Err TooLarge, out)
       unfolding write_of written
       loaded_large h = rw (loaded_bytes (length out), lt-leb (length result) size_limit h)
 
       module _ (fits : length result ≤ size_limit) where
-        pub loaded_short : length out < length result → write_of m file now out ≡ (Refused (ShortOutput (length result)), out)
+        pub loaded_short : length out < length result → write_of m file now out ≡ (Err (ShortOutput (length result)), out)
         unfolding write_of written
         loaded_short h = rw (loaded_bytes (length out), le-leb (length result) size_limit fits, lt-leb (length result) (length out) h)
 
-        pub loaded_written : length result ≤ length out → write_of m file now out ≡ (Written (length result), put 0 result out)
+        pub loaded_written : length result ≤ length out → write_of m file now out ≡ (Ok (length result), put 0 result out)
         unfolding write_of written
         loaded_written h = rw (loaded_bytes (length out), le-leb (length result) size_limit fits, le-leb (length result) (length out) h)
 
@@ -81,12 +81,12 @@ abbrev Answer : Type 0
 Answer = WriteAnswer × List ℕ
 
 -- where it is known why, it is that
-refused_by : {s : Answer} {r why : Refusal} {out left : List ℕ} → s ≡ (Refused r, out) → s ≡ (Refused why, left) → why ≡ r
-refused_by {r = r} {why = why} h e = let z : ◌≡◌ {A = WriteAnswer} (Refused r) (Refused why) = ap (λ (x : Answer). x.0) (sym h ∙ e) in cc
+refused_by : {s : Answer} {r why : Refusal} {out left : List ℕ} → s ≡ (Err r, out) → s ≡ (Err why, left) → why ≡ r
+refused_by {r = r} {why = why} h e = let z : ◌≡◌ {A = WriteAnswer} (Err r) (Err why) = ap (λ (x : Answer). x.0) (sym h ∙ e) in cc
 
-not_refused : {s : Answer} {n : ℕ} {why : Refusal} {out left : List ℕ} → s ≡ (Written n, out) → s ≡ (Refused why, left) → ⊥
+not_refused : {s : Answer} {n : ℕ} {why : Refusal} {out left : List ℕ} → s ≡ (Ok n, out) → s ≡ (Err why, left) → ⊥
 not_refused {n = n} {why = why} h e =
-    let z : ◌≡◌ {A = WriteAnswer} (Written n) (Refused why) = ap (λ (x : Answer). x.0) (sym h ∙ e) in
+    let z : ◌≡◌ {A = WriteAnswer} (Ok n) (Err why) = ap (λ (x : Answer). x.0) (sym h ∙ e) in
     let f : ◌≡◌ {A = ℕ} 0 1 = cc in
     omega arith
 
@@ -98,14 +98,14 @@ module _ {file : List ℕ} {words now : List ℤ} {m : Module} {used needed : �
     pub holds : left ≡ put 0 (result a) out
     pub room : length (result a) ≤ length out
 
-  wrote_by : {n : ℕ} {left : List ℕ} → write_of m file now out ≡ (Written n, left) → write_of m file now out ≡ (Written (length (result a)), put 0 (result a) out)
+  wrote_by : {n : ℕ} {left : List ℕ} → write_of m file now out ≡ (Ok n, left) → write_of m file now out ≡ (Ok (length (result a)), put 0 (result a) out)
       → length (result a) ≤ length out → Wrote n left
   wrote_by {n = n} {left = left} f e room =
-      let both : ◌≡◌ {A = Answer} (Written n, left) (Written (length (result a)), put 0 (result a) out) = sym f ∙ e in
-      let z : ◌≡◌ {A = WriteAnswer} (Written n) (Written (length (result a))) = ap (λ (x : Answer). x.0) both in
+      let both : ◌≡◌ {A = Answer} (Ok n, left) (Ok (length (result a)), put 0 (result a) out) = sym f ∙ e in
+      let z : ◌≡◌ {A = WriteAnswer} (Ok n) (Ok (length (result a))) = ap (λ (x : Answer). x.0) both in
       record { size = cc; holds = ap (λ (x : Answer). x.1) both; room = room }
 
-  pub loaded_wrote : {n : ℕ} {left : List ℕ} → write_of m file now out ≡ (Written n, left) → Wrote n left
+  pub loaded_wrote : {n : ℕ} {left : List ℕ} → write_of m file now out ≡ (Ok n, left) → Wrote n left
   loaded_wrote f =
       ⊎_elim (λ h. absurd (not_refused f (loaded_large a bytes out h)))
       (λ h. ⊎_elim (λ k. absurd (not_refused f (loaded_short a bytes out h k))) (λ k. wrote_by f (loaded_written a bytes out h k) k) (lt_or_le (length out) (length (result a))))
@@ -113,13 +113,13 @@ module _ {file : List ℕ} {words now : List ℤ} {m : Module} {used needed : �
 
 -- ---- from the load itself
 
-module _ (file : List ℕ) (words : List ℤ) {now : List ℤ} {m : Module} {used needed : ℕ} (e : load_of file words ≡ (Loaded m used needed, now)) where
+module _ (file : List ℕ) (words : List ℤ) {now : List ℤ} {m : Module} {used needed : ℕ} (e : load_of file words ≡ (loaded m used needed, now)) where
   -- the words say the records that the file has
   pub load_as_read : (r : Records) × (end : Cursor) × (parse file front ≡ got r end) × (records_of m file now ≡ got r needed)
   load_as_read = let a = accepted file words e in (a.records, a.end, a.reads, loaded_records a)
 
   -- where writing is refused, the result is too large, or the output too short for it
-  pub load_writes : Bytes file → (out : List ℕ) {why : Refusal} {left : List ℕ} → write_of m file now out ≡ (Refused why, left)
+  pub load_writes : Bytes file → (out : List ℕ) {why : Refusal} {left : List ℕ} → write_of m file now out ≡ (Err why, left)
       → (why ≡ TooLarge) ⊎ (why ≡ ShortOutput (length (result (accepted file words e))))
   load_writes bytes out f =
       let a = accepted file words e in

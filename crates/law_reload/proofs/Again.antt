@@ -11,8 +11,8 @@ use borrow.Author.Tests.{le-leb}
 use lib.IntN.{ℤ}
 use lib.ListN.{length, take, length-append}
 use Rattle.law_format.proofs.Types.{Span, Module}
-use Rattle.format.specs.declared.module.LoadAnswer.TheVariants.{Loaded}
-use Rattle.format.specs.declared.module.WriteAnswer.TheVariants.{Written}
+use Rattle.std.specs.Prelude.{Ok}
+use Rattle.format.specs.Answers.{loaded}
 use Rattle.format.specs.Reading.{got, front, past}
 use Rattle.format.specs.Operands.{shown}
 use Rattle.format.specs.Put.{put}
@@ -47,7 +47,7 @@ pub record Says (c : Content) (file : List ℕ) (words : List ℤ) (used needed 
   pub records : Records
   pub same : content_of file records ≡ c
   pub reads : parse file front ≡ got records (past front used)
-  pub loads : load_of file words ≡ (Loaded (module_of records) used needed, put 0 (table_words records) words)
+  pub loads : load_of file words ≡ (loaded (module_of records) used needed, put 0 (table_words records) words)
 
 -- it is written as its content is, where refusals 21, 1 and 24 spare that
 module _ {c : Content} {file : List ℕ} {words : List ℤ} {used needed : ℕ} (s : Says c file words used needed) where
@@ -55,7 +55,7 @@ module _ {c : Content} {file : List ℕ} {words : List ℤ} {used needed : ℕ} 
   records_same a = let both : got a.records a.end ≡ got s.records (past front used) = sym a.reads ∙ s.reads in cc
 
   says_written : wide_fault 0 (layout c) ≡ none → length (encode c) ≤ size_limit → (out : List ℕ) → length (encode c) ≤ length out
-      → write_of (module_of s.records) file (put 0 (table_words s.records) words) out ≡ (Written (length (encode c)), put 0 (encode c) out)
+      → write_of (module_of s.records) file (put 0 (table_words s.records) words) out ≡ (Ok (length (encode c)), put 0 (encode c) out)
   unfolding write_of written bytes_of
   says_written narrow fits out room =
       let a = accepted file words s.loads in
@@ -108,8 +108,8 @@ module _ {file : List ℕ} {words now : List ℤ} {m : Module} {used needed : �
 
 -- ---- from the load and the writing themselves
 
-module _ (file : List ℕ) (words : List ℤ) {now : List ℤ} {m : Module} {used needed : ℕ} (e : load_of file words ≡ (Loaded m used needed, now)) (bytes : Bytes file)
-    (out : List ℕ) {n : ℕ} {left : List ℕ} (f : write_of m file now out ≡ (Written n, left)) where
+module _ (file : List ℕ) (words : List ℤ) {now : List ℤ} {m : Module} {used needed : ℕ} (e : load_of file words ≡ (loaded m used needed, now)) (bytes : Bytes file)
+    (out : List ℕ) {n : ℕ} {left : List ℕ} (f : write_of m file now out ≡ (Ok n, left)) where
   abbrev first : Accepted file words m used needed now
   first = accepted file words e
 
@@ -126,7 +126,7 @@ module _ (file : List ℕ) (words : List ℤ) {now : List ℤ} {m : Module} {use
 
     -- and written again as it was
     pub write_again : (other : List ℕ) → n ≤ length other → let r = load_again.records in
-        write_of (module_of r) (take n left ++ ys) (put 0 (table_words r) again) other ≡ (Written n, put 0 (take n left) other)
+        write_of (module_of r) (take n left ++ ys) (put 0 (table_words r) again) other ≡ (Ok n, put 0 (take n left) other)
     write_again other enough =
         says_written load_again (loaded_narrow first bytes) (omega (arith, length-append (take n left) ys, ap length written_is)) other (omega (arith, size_is))
         ∙ rw (written_is, size_is)

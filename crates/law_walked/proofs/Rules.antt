@@ -1,7 +1,7 @@
 -- The rules of the walk, as equations: what each event answers in which state. They shut out a walk that does otherwise.
 -- Assumes nothing.
 use Prim.Native.Nat.{ℕ, suc, ◌≤◌, ◌<◌}
-use mathlib.Core.Path.{◌≡◌, refl, ap, ◌∙◌}
+use mathlib.Core.Path.{◌≡◌, refl, ap, ◌∙◌, sym}
 use mathlib.Core.Logic.{◌⊎◌, inl, inr}
 use mathlib.Core.Bool.{Bool, true, false, or-true}
 use mathlib.Core.List.{List, [], ◌∷◌, ◌++◌}
@@ -13,17 +13,19 @@ use lib.IntN.{ℤ, pos, negsuc}
 use lib.Signed.{le_z, lt_z, ◌≤ℤ◌, ◌<ℤ◌, le_z_yes, lt_z_yes}
 use lib.ListN.{length, get_elem?}
 use Rattle.format.proofs.Ranges.{none_past}
-use Rattle.law_format.proofs.Types.{ExportEntry, Handler, ExceptionCase, Module, Refusal, NoExport, Frame, State}
+use Rattle.law_format.proofs.Types.{ExportEntry, Handler, ExceptionCase, Module, Refusal, NoExport, Frame, State, Stayed}
 use Rattle.format.specs.declared.walk.Frame.TheVariants as F
 use Rattle.format.specs.declared.walk.Stop.TheVariants.{NoEntry, NoCode, EndOfCode, Uncaught, NoCatchAll}
 use Rattle.format.specs.declared.walk.State.TheVariants.{Idle, At, Stopped, Broken}
-use Rattle.format.specs.declared.walk.WalkAnswer.TheVariants.{Walked, Refused}
+use Rattle.std.specs.Prelude.{Ok, Err}
+use Rattle.format.specs.Answers.{WalkAnswer, stayed}
 use Rattle.format.specs.Reading.{Step, got, refused}
 use Rattle.format.specs.Operands.{shown}
 use Rattle.format.specs.Records.{Handled, Records}
 use Rattle.format.specs.Checks.{minus_one}
 use Rattle.format.specs.WellFormed.{records_of}
 use Rattle.format.specs.Walk.{Event, entry, export, next, raise, frame_of, handler_frame, go_to, entered, exported, advanced, covers, takes, caught, first_case, first_handler, from_there, export_or, moved, in_tables, walk_of}
+use Rattle.law_format.proofs.Told.{err_is}
 use Rattle.law_format.proofs.Many.{All}
 use Rattle.law_format.proofs.Truth.{and_both, same_bytes_lem, bytes_same}
 use Rattle.law_walked.proofs.Had.{Below, HadFrame, HadBoth, has_both_lem, lacks_one, goes, breaks}
@@ -144,36 +146,36 @@ module _ (file : List ℕ) (r : Records) where
   -- ---- entry and export, in any state
 
   -- before the frame is looked at
-  pub no_entry : r.header.entry_pc ≡ negsuc 0 → (s : State) → moved file r entry s ≡ Walked (Stopped NoEntry)
+  pub no_entry : r.header.entry_pc ≡ negsuc 0 → (s : State) → moved file r entry s ≡ Ok (Stopped NoEntry)
   unfolding moved entered
   no_entry e s = rw e
 
-  pub entry_lost : {n : ℕ} → r.header.entry_pc ≡ negsuc (suc n) → (s : State) → moved file r entry s ≡ Walked Broken
+  pub entry_lost : {n : ℕ} → r.header.entry_pc ≡ negsuc (suc n) → (s : State) → moved file r entry s ≡ Ok Broken
   unfolding moved entered
-  entry_lost {n} e s = rw (e, eqb-suc-zero n) (ap Walked (breaks code_size_of type_size_of (negsuc (suc n)) (frame_of type_size_of r.header.entry_type) λ h. absurd h.code))
+  entry_lost {n} e s = rw (e, eqb-suc-zero n) (ap Ok (breaks code_size_of type_size_of (negsuc (suc n)) (frame_of type_size_of r.header.entry_type) λ h. absurd h.code))
 
-  pub entry_goes : {n : ℕ} → r.header.entry_pc ≡ pos n → (s : State) → moved file r entry s ≡ Walked (go_to code_size_of type_size_of (pos n) (frame_of type_size_of r.header.entry_type))
+  pub entry_goes : {n : ℕ} → r.header.entry_pc ≡ pos n → (s : State) → moved file r entry s ≡ Ok (go_to code_size_of type_size_of (pos n) (frame_of type_size_of r.header.entry_type))
   unfolding moved entered
   entry_goes e s = rw e
 
-  pub entry_past : {n : ℕ} → r.header.entry_pc ≡ pos n → code_size_of ≤ n → (s : State) → moved file r entry s ≡ Walked Broken
-  entry_past {n} e h s = entry_goes e s ∙ ap Walked (pc_lost code_size_of type_size_of n (frame_of type_size_of r.header.entry_type) h)
+  pub entry_past : {n : ℕ} → r.header.entry_pc ≡ pos n → code_size_of ≤ n → (s : State) → moved file r entry s ≡ Ok Broken
+  entry_past {n} e h s = entry_goes e s ∙ ap Ok (pc_lost code_size_of type_size_of n (frame_of type_size_of r.header.entry_type) h)
 
-  pub no_export : (k : ℕ) → length r.exports ≤ k → (s : State) → moved file r (export k) s ≡ Refused (NoExport k) s
+  pub no_export : (k : ℕ) → length r.exports ≤ k → (s : State) → moved file r (export k) s ≡ stayed (NoExport k) s
   unfolding moved
   no_export k h s = rw (← none_past r.exports k h)
 
   module _ (k : ℕ) {e : ExportEntry} (there : get_elem? r.exports k ≡ some e) where
-    pub no_code : {n : ℕ} → e.pc ≡ negsuc n → (s : State) → moved file r (export k) s ≡ Walked (Stopped NoCode)
+    pub no_code : {n : ℕ} → e.pc ≡ negsuc n → (s : State) → moved file r (export k) s ≡ Ok (Stopped NoCode)
     unfolding moved exported
     no_code f s = rw (there, f)
 
-    pub export_goes : {n : ℕ} → e.pc ≡ pos n → (s : State) → moved file r (export k) s ≡ Walked (go_to code_size_of type_size_of (pos n) (frame_of type_size_of e.frame))
+    pub export_goes : {n : ℕ} → e.pc ≡ pos n → (s : State) → moved file r (export k) s ≡ Ok (go_to code_size_of type_size_of (pos n) (frame_of type_size_of e.frame))
     unfolding moved exported
     export_goes {n} f s = rw (there, f, le-ltb n 0 (omega arith))
 
-    pub export_past : {n : ℕ} → e.pc ≡ pos n → code_size_of ≤ n → (s : State) → moved file r (export k) s ≡ Walked Broken
-    export_past {n} f h s = export_goes f s ∙ ap Walked (pc_lost code_size_of type_size_of n (frame_of type_size_of e.frame) h)
+    pub export_past : {n : ℕ} → e.pc ≡ pos n → code_size_of ≤ n → (s : State) → moved file r (export k) s ≡ Ok Broken
+    export_past {n} f h s = export_goes f s ∙ ap Ok (pc_lost code_size_of type_size_of n (frame_of type_size_of e.frame) h)
 
   -- ---- next and raise where there is no pc
 
@@ -190,22 +192,22 @@ module _ (file : List ℕ) (r : Records) where
   from_still go (Stopped why) h = refl
   from_still go Broken h = refl
 
-  pub next_still : (s : State) → Still s → moved file r next s ≡ Walked s
+  pub next_still : (s : State) → Still s → moved file r next s ≡ Ok s
   unfolding moved
-  next_still s h = ap Walked (from_still _ s h)
+  next_still s h = ap Ok (from_still _ s h)
 
-  pub raise_still : (name : List ℕ) (s : State) → Still s → moved file r (raise name) s ≡ Walked s
+  pub raise_still : (name : List ℕ) (s : State) → Still s → moved file r (raise name) s ≡ Ok s
   unfolding moved
-  raise_still name s h = ap Walked (from_still _ s h)
+  raise_still name s h = ap Ok (from_still _ s h)
 
   -- ---- where the module lacks the pc or the frame
 
   module _ (pc : ℤ) (f : Frame) (lack : HadBoth (pos code_size_of) (pos type_size_of) pc f → ⊥) where
-    pub next_lost : moved file r next (At pc f) ≡ Walked Broken
+    pub next_lost : moved file r next (At pc f) ≡ Ok Broken
     unfolding moved from_there
     next_lost = rw (lacks_one code_size_of type_size_of pc f lack)
 
-    pub raise_lost : (name : List ℕ) → moved file r (raise name) (At pc f) ≡ Walked Broken
+    pub raise_lost : (name : List ℕ) → moved file r (raise name) (At pc f) ≡ Ok Broken
     unfolding moved from_there
     raise_lost name = rw (lacks_one code_size_of type_size_of pc f lack)
 
@@ -215,47 +217,47 @@ module _ (file : List ℕ) (r : Records) where
     at_had : n < code_size_of → HadBoth (pos code_size_of) (pos type_size_of) (pos n) f
     at_had h = record { code = h; frame = had }
 
-    pub next_goes : suc n < code_size_of → moved file r next (At (pos n) f) ≡ Walked (At (pos (suc n)) f)
+    pub next_goes : suc n < code_size_of → moved file r next (At (pos n) f) ≡ Ok (At (pos (suc n)) f)
     unfolding moved from_there advanced
     next_goes h = rw (has_both_lem code_size_of type_size_of (pos n) f (at_had (omega arith)), lt-ltb (suc n) code_size_of h)
 
-    pub end_of_code : suc n ≡ code_size_of → moved file r next (At (pos n) f) ≡ Walked (Stopped EndOfCode)
+    pub end_of_code : suc n ≡ code_size_of → moved file r next (At (pos n) f) ≡ Ok (Stopped EndOfCode)
     unfolding moved from_there advanced
     end_of_code h = rw (has_both_lem code_size_of type_size_of (pos n) f (at_had (omega arith)), le-ltb (suc n) code_size_of (omega arith))
 
   -- ---- raise where it has both
 
   module _ (pc : ℤ) (f : Frame) (had : HadBoth (pos code_size_of) (pos type_size_of) pc f) (name : List ℕ) where
-    pub raise_is : moved file r (raise name) (At pc f) ≡ Walked (first_handler code_size_of type_size_of file name pc r.handlers)
+    pub raise_is : moved file r (raise name) (At pc f) ≡ Ok (first_handler code_size_of type_size_of file name pc r.handlers)
     unfolding moved from_there
     raise_is = rw (has_both_lem code_size_of type_size_of pc f had)
 
-    pub uncaught : All (λ h. covers pc h.0 ≡ false) r.handlers → moved file r (raise name) (At pc f) ≡ Walked (Stopped Uncaught)
-    uncaught all = raise_is ∙ ap Walked (no_handler code_size_of type_size_of file name pc r.handlers all)
+    pub uncaught : All (λ h. covers pc h.0 ≡ false) r.handlers → moved file r (raise name) (At pc f) ≡ Ok (Stopped Uncaught)
+    uncaught all = raise_is ∙ ap Ok (no_handler code_size_of type_size_of file name pc r.handlers all)
 
     -- the first case that takes the name, of the first handler that covers the pc
     module _ (gs hs : List Handled) (h : Handler) (cs ds : List ExceptionCase) (c : ExceptionCase) (handlers : r.handlers ≡ gs ++ (h, cs ++ c ∷ ds) ∷ hs)
         (outside : All (λ g. covers pc g.0 ≡ false) gs) (inside : covers pc h ≡ true) (others : All (Passes code_size_of type_size_of file name) cs) (this : takes (shown file c.name) name ≡ true) where
-      pub raised : moved file r (raise name) (At pc f) ≡ Walked (caught code_size_of type_size_of h.descriptor (eqb (length ds) 0) c.pc)
+      pub raised : moved file r (raise name) (At pc f) ≡ Ok (caught code_size_of type_size_of h.descriptor (eqb (length ds) 0) c.pc)
       raised =
-          raise_is ∙ ap Walked (ap (first_handler code_size_of type_size_of file name pc) handlers
+          raise_is ∙ ap Ok (ap (first_handler code_size_of type_size_of file name pc) handlers
           ∙ first_handler_lem code_size_of type_size_of file name pc gs h (cs ++ c ∷ ds) hs outside inside
           ∙ first_case_lem code_size_of type_size_of file name h.descriptor cs c ds others this)
 
       -- a last case with -1: the handler's type is not looked at
-      pub raise_stops : ds ≡ [] → c.pc ≡ negsuc 0 → moved file r (raise name) (At pc f) ≡ Walked (Stopped NoCatchAll)
-      raise_stops last stop = raised ∙ rw (last, stop) (ap Walked (no_catch_all code_size_of type_size_of h.descriptor))
+      pub raise_stops : ds ≡ [] → c.pc ≡ negsuc 0 → moved file r (raise name) (At pc f) ≡ Ok (Stopped NoCatchAll)
+      raise_stops last stop = raised ∙ rw (last, stop) (ap Ok (no_catch_all code_size_of type_size_of h.descriptor))
 
-      pub raise_goes : {n : ℕ} → c.pc ≡ pos n → moved file r (raise name) (At pc f) ≡ Walked (go_to code_size_of type_size_of (pos n) (handler_frame h.descriptor))
-      raise_goes there = raised ∙ rw there (ap Walked (catches code_size_of type_size_of h.descriptor (eqb (length ds) 0) _))
+      pub raise_goes : {n : ℕ} → c.pc ≡ pos n → moved file r (raise name) (At pc f) ≡ Ok (go_to code_size_of type_size_of (pos n) (handler_frame h.descriptor))
+      raise_goes there = raised ∙ rw there (ap Ok (catches code_size_of type_size_of h.descriptor (eqb (length ds) 0) _))
 
 -- ---- a refusal hands the state back unchanged, and over well-formed tables it is 25
 
-export_refused : (code_size_of type_size_of : ℕ) (s t : State) (k : ℕ) {why : Refusal} (o : Option ExportEntry) → export_or code_size_of type_size_of s k o ≡ Refused why t → (t ≡ s) × (why ≡ NoExport k)
+export_refused : (code_size_of type_size_of : ℕ) (s t : State) (k : ℕ) {why : Refusal} (o : Option ExportEntry) → export_or code_size_of type_size_of s k o ≡ stayed why t → (t ≡ s) × (why ≡ NoExport k)
 export_refused code_size_of type_size_of s t k (some e) f = let z : ◌≡◌ {A = ℕ} 0 1 = cc in absurd (omega arith)
-export_refused code_size_of type_size_of s t k none f = (cc, cc)
+export_refused code_size_of type_size_of s t k none f = let e = err_is f in (ap (λ (x : Stayed). x.state) (sym e), ap (λ (x : Stayed). x.why) (sym e))
 
-pub moved_refused : (file : List ℕ) (r : Records) (event : Event) (s t : State) {why : Refusal} → moved file r event s ≡ Refused why t
+pub moved_refused : (file : List ℕ) (r : Records) (event : Event) (s t : State) {why : Refusal} → moved file r event s ≡ stayed why t
     → (t ≡ s) × (k : ℕ) × (event ≡ export k) × (why ≡ NoExport k)
 unfolding moved
 moved_refused file r entry s t f = let z : ◌≡◌ {A = ℕ} 0 1 = cc in absurd (omega arith)
@@ -263,10 +265,10 @@ moved_refused file r (export k) s t f = let g = export_refused (length r.code) (
 moved_refused file r next s t f = let z : ◌≡◌ {A = ℕ} 0 1 = cc in absurd (omega arith)
 moved_refused file r (raise name) s t f = let z : ◌≡◌ {A = ℕ} 0 1 = cc in absurd (omega arith)
 
-keeps_by : (file : List ℕ) (x : Step ℕ Records) (event : Event) (s t : State) {why : Refusal} → in_tables s x (λ r. moved file r event s) ≡ Refused why t → t ≡ s
+keeps_by : (file : List ℕ) (x : Step ℕ Records) (event : Event) (s t : State) {why : Refusal} → in_tables s x (λ r. moved file r event s) ≡ stayed why t → t ≡ s
 keeps_by file (got r w) event s t f = (moved_refused file r event s t f).0
-keeps_by file (refused why) event s t f = cc
+keeps_by file (refused why) event s t f = ap (λ (x : Stayed). x.state) (sym (err_is f))
 
-pub refusal_keeps : (m : Module) (file : List ℕ) (words : List ℤ) (event : Event) (s t : State) {why : Refusal} → walk_of m file words event s ≡ Refused why t → t ≡ s
+pub refusal_keeps : (m : Module) (file : List ℕ) (words : List ℤ) (event : Event) (s t : State) {why : Refusal} → walk_of m file words event s ≡ stayed why t → t ≡ s
 unfolding walk_of
 refusal_keeps m file words = keeps_by file (records_of m file words)

@@ -6,9 +6,8 @@ use mathlib.Core.List.{List, ◌∷◌, ◌++◌, map}
 use lib.IntN.{ℤ}
 use lib.ListN.{length, take, get_elem?}
 use Rattle.law_format.proofs.Types.{Header, ExportEntry, ExceptionCase, Module, State, WalkAnswer}
-use Rattle.format.specs.declared.module.LoadAnswer.TheVariants.{Loaded}
-use Rattle.format.specs.declared.module.WriteAnswer.TheVariants.{Written}
-use Rattle.format.specs.declared.walk.WalkAnswer.TheVariants.{Walked}
+use Rattle.std.specs.Prelude.{Ok}
+use Rattle.format.specs.Answers.{loaded}
 use Rattle.format.specs.Reading.{got}
 use Rattle.format.specs.Put.{put}
 use Rattle.format.specs.Records.{Handled, Records, module_of, size_limit}
@@ -39,7 +38,7 @@ module _ (file file' : List ℕ) where
     export_turn : (s : State) (number : ℕ) (x y : ExportEntry) (xs ys : List ExportEntry) → export_shown file x ≡ export_shown file' y
         → ((k : ℕ) → export_or code_size_of type_size_of s number (get_elem? xs k) ≡ export_or code_size_of type_size_of s number (get_elem? ys k))
         → (k : ℕ) → export_or code_size_of type_size_of s number (get_elem? (x ∷ xs) k) ≡ export_or code_size_of type_size_of s number (get_elem? (y ∷ ys) k)
-    export_turn s number x y xs ys same ih zero = ap Walked (exported_same x y same)
+    export_turn s number x y xs ys same ih zero = ap Ok (exported_same x y same)
     export_turn s number x y xs ys same ih (suc k) = ih k
 
     exports_same : (s : State) (number : ℕ) (xs ys : List ExportEntry) → map (export_shown file) xs ≡ map (export_shown file') ys
@@ -92,7 +91,7 @@ module _ (file file' : List ℕ) where
     same_moves next s = rw (codes, types)
     same_moves (raise name) s =
         let searches = fun_ext λ pc. handlers_same code_size_of type_size_of name pc r.handlers r'.handlers (ap (λ (c : Content). c.handlers) e) in
-        rw (codes, types) (ap (λ (search : ℤ → State). Walked (from_there code_size_of type_size_of (λ pc frame. search pc) s)) searches)
+        rw (codes, types) (ap (λ (search : ℤ → State). Ok (from_there code_size_of type_size_of (λ pc frame. search pc) s)) searches)
 
     -- so that over tables that say them the walk is the same
     pub same_tables : (m m' : Module) (words words' : List ℤ) {w w' : ℕ} → records_of m file words ≡ got r w → records_of m' file' words' ≡ got r' w'
@@ -114,12 +113,12 @@ walks_alike {file} {file'} {now = now} {words' = words'} {m = m} a b =
 pub record WalksAs (answer : Event → State → WalkAnswer) (file : List ℕ) (words : List ℤ) (used needed : ℕ) : Type 0 where
   pub beside : Module
   pub now : List ℤ
-  pub loads : load_of file words ≡ (Loaded beside used needed, now)
+  pub loads : load_of file words ≡ (loaded beside used needed, now)
   pub same_answers : (events : List Event) (s : State) → answers (walk_of beside file now) events s ≡ answers answer events s
   pub same_end : (events : List Event) (s : State) → after (walk_of beside file now) events s ≡ after answer events s
 
-module _ (file : List ℕ) (words : List ℤ) {now : List ℤ} {m : Module} {used needed : ℕ} (e : load_of file words ≡ (Loaded m used needed, now)) (bytes : Bytes file)
-    (out : List ℕ) {n : ℕ} {left : List ℕ} (f : write_of m file now out ≡ (Written n, left))
+module _ (file : List ℕ) (words : List ℤ) {now : List ℤ} {m : Module} {used needed : ℕ} (e : load_of file words ≡ (loaded m used needed, now)) (bytes : Bytes file)
+    (out : List ℕ) {n : ℕ} {left : List ℕ} (f : write_of m file now out ≡ (Ok n, left))
     (ys : List ℕ) (small : length (take n left ++ ys) ≤ size_limit) (again : List ℤ) (room : needed ≤ length again) where
   pub same_walk : WalksAs (walk_of m file now) (take n left ++ ys) again n needed
   same_walk =

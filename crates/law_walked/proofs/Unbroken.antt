@@ -13,10 +13,10 @@ use lib.Signed.{lt_z}
 use lib.ListN.{length, get_elem?}
 use Rattle.bits.proofs.Signs.{not_below}
 use Rattle.law_format.proofs.Types.{Header, ExportEntry, Handler, ExceptionCase, Module, Refusal, NoExport, Frame, State, WalkAnswer}
-use Rattle.format.specs.declared.module.LoadAnswer.TheVariants.{Loaded}
+use Rattle.std.specs.Prelude.{Ok, Err}
+use Rattle.format.specs.Answers.{loaded}
 use Rattle.format.specs.declared.walk.Frame.TheVariants as F
 use Rattle.format.specs.declared.walk.State.TheVariants.{Idle, At, Stopped, Broken}
-use Rattle.format.specs.declared.walk.WalkAnswer.TheVariants.{Walked, Refused}
 use Rattle.format.specs.Reading.{got}
 use Rattle.format.specs.Operands.{shown}
 use Rattle.format.specs.Records.{Handled, Records, module_of}
@@ -161,13 +161,13 @@ module _ (code_size_of type_size_of : ℕ) where
 -- ---- an event: a state that the module has, or 25 and the state as it was
 
 abbrev pub Fine : ℤ → ℤ → WalkAnswer → Type 0
-Fine codes types (Walked s) = Had codes types s
-Fine codes types (Refused why s) = Had codes types s × (k : ℕ) × (why ≡ NoExport k)
+Fine codes types (Ok s) = Had codes types s
+Fine codes types (Err r) = Had codes types r.state × (k : ℕ) × (r.why ≡ NoExport k)
 
 module _ (codes types : ℤ) where
   left_had : (a : WalkAnswer) → Fine codes types a → Had codes types (state_of a)
-  left_had (Walked s) f = f
-  left_had (Refused why s) f = f.0
+  left_had (Ok s) f = f
+  left_had (Err r) f = f.0
 
   module _ (answer : Event → State → WalkAnswer) (each : (e : Event) (s : State) → Had codes types s → Fine codes types (answer e s)) where
     answers_fine : (es : List Event) (s : State) → Had codes types s → All (Fine codes types) (answers answer es s)
@@ -221,7 +221,7 @@ module _ (file : List ℕ) (r : Records) (good : Good file r) (faultless : fault
     walk_fine : (e : Event) (s : State) → Had codes types s → Fine codes types (walk_of m file words e s)
     walk_fine e s h = rw (codes-are, types_are, walk_is m file words says) (moved_fine e s (rw (codes-are, types_are) at h))
 
-module _ (file : List ℕ) (words : List ℤ) {now : List ℤ} {m : Module} {used needed : ℕ} (e : load_of file words ≡ (Loaded m used needed, now)) where
+module _ (file : List ℕ) (words : List ℤ) {now : List ℤ} {m : Module} {used needed : ℕ} (e : load_of file words ≡ (loaded m used needed, now)) where
   abbrev codes : ℤ
   codes = m.header.code_size
 

@@ -5,12 +5,10 @@
 ghost use Rattle.std.specs.Prelude.{◌≡◌, ◌-◌, length};
 ghost use Rattle.format.specs.Reading.{front};
 ghost use Rattle.format.specs.Operands.{byte_at, operand_at, word_at, name_at, span_at};
-ghost use Rattle.reader.specs.View.{byte_read, number_read, span_read};
+ghost use Rattle.law_format.specs.Views.{as_read, part_read};
 
-use format::types::Cursor;
-use reader::{
-    ByteRead, NumberRead, SpanRead, read_byte, read_name, read_operand, read_span, read_word,
-};
+use format::types::{Cursor, Part};
+use reader::{read_byte, read_name, read_operand, read_span, read_word};
 
 #[derive(Clone, Copy)]
 pub struct Reader<'a> {
@@ -62,40 +60,40 @@ impl<'a> Reader<'a> {
         left_at(self.file, self.at)
     }
 
-    pub fn byte(self) -> ByteRead
-        ensures { byte_read result ≡ byte_at self.entry.file.now self.entry.at }
+    pub fn byte(self) -> Option<(u8, Cursor)>
+        ensures { as_read result ≡ byte_at self.entry.file.now self.entry.at }
     {
         read_byte(self.file, self.at)
     }
 
-    pub fn operand(self) -> NumberRead
-        ensures { number_read result ≡ operand_at self.entry.file.now self.entry.at }
+    pub fn operand(self) -> Option<(i32, Cursor)>
+        ensures { as_read result ≡ operand_at self.entry.file.now self.entry.at }
     {
         read_operand(self.file, self.at)
     }
 
-    pub fn word(self) -> NumberRead
-        ensures { number_read result ≡ word_at self.entry.file.now self.entry.at }
+    pub fn word(self) -> Option<(i32, Cursor)>
+        ensures { as_read result ≡ word_at self.entry.file.now self.entry.at }
     {
         read_word(self.file, self.at)
     }
 
-    pub fn name(self) -> SpanRead
-        ensures { span_read result ≡ name_at self.entry.file.now self.entry.at }
+    pub fn name(self) -> Option<(Part, Cursor)>
+        ensures { part_read result ≡ name_at self.entry.file.now self.entry.at }
     {
         read_name(self.file, self.at)
     }
 
-    pub fn span(self, len: usize) -> SpanRead
-        ensures { span_read result ≡ span_at self.entry.file.now len self.entry.at }
+    pub fn span(self, len: usize) -> Option<(Part, Cursor)>
+        ensures { part_read result ≡ span_at self.entry.file.now len self.entry.at }
     {
         read_span(self.file, len, self.at)
     }
 }
 
 // The operand that a file begins with, its magic where it is a module.
-pub fn first_operand(file: &[u8]) -> NumberRead
-    ensures { number_read result ≡ operand_at file.now front }
+pub fn first_operand(file: &[u8]) -> Option<(i32, Cursor)>
+    ensures { as_read result ≡ operand_at file.now front }
 {
     Reader::new(file).operand()
 }

@@ -13,7 +13,7 @@ use Rattle.format.specs.declared.types.Placed.{Placed}
 use Rattle.format.specs.declared.module.Module.{Module}
 use Rattle.format.specs.declared.refusal.Refusal.{Refusal}
 use Rattle.format.specs.declared.refusal.Refusal.TheVariants.{FewWords}
-use Rattle.format.specs.declared.module.LoadAnswer.TheVariants.{Loaded, Refused}
+use Rattle.std.specs.Prelude.{Ok, Err}
 use Rattle.format.specs.Load.{load_of}
 use Rattle.format.specs.Put.{put}
 use Rattle.format.specs.Reading.{Step, got, refused, many, front}
@@ -32,8 +32,9 @@ use Rattle.law_format.proofs.Limit.{words_limit}
 use Rattle.load_survey.specs.declared.Front.{Front}
 use Rattle.load_survey.specs.declared.Middle.{Middle}
 use Rattle.load_survey.specs.declared.Back.{Back}
-use Rattle.load_survey.specs.Survey.{Ran}
-use Rattle.load.specs.Whole.{Surveyed, of_read, besides}
+use Rattle.load_survey.specs.Survey.{Surveyed}
+use Rattle.load_survey.proofs.Facts.{Ran, code_ran, types_ran, items_ran, exports_ran, imports_ran, handlers_ran}
+use Rattle.load.specs.Whole.{of_read, besides}
 
 -- records that were counted and read
 module _ {A : Type 0} (section : ℕ) (one : Reading A) (p : Placed) (c : Cursor) {n : ℕ} {q : Cursor} (r : Ran (counted_by section one p c) n q) where
@@ -63,19 +64,19 @@ module _ {file : List ℕ} {f : Front} {m : Middle} {b : Back} (s : Surveyed fil
   abbrev pub records : Records
   records = record {
     header = f.header.header;
-    code = s.front.code.records;
-    types = s.front.types.records;
-    items = s.middle.items.records;
+    code = (code_ran s).records;
+    types = (types_ran s).records;
+    items = (items_ran s).records;
     name = m.name;
-    exports = s.middle.exports.records;
-    imports = s.back.imports.records;
-    handlers = s.back.handlers.records;
+    exports = (exports_ran s).records;
+    imports = (imports_ran s).records;
+    handlers = (handlers_ran s).records;
   }
 
   pub parsed : parse file front ≡ got records b.end
   parsed =
-      parse_whole file front s.front.header s.front.code.reads s.front.types.reads s.middle.items.reads s.middle.name
-      s.middle.exports.reads s.back.imports.reads s.back.handlers.reads
+      parse_whole file front s.front.header (code_ran s).reads (types_ran s).reads (items_ran s).reads s.middle.name
+      (exports_ran s).reads (imports_ran s).reads (handlers_ran s).reads
 
   -- the checks in their order, over what is read again
   pub late : of_read none fault_in (parse file front)
@@ -86,39 +87,46 @@ module _ {file : List ℕ} {f : Front} {m : Middle} {b : Back} (s : Surveyed fil
   late =
       rw (
         parsed,
-        s.front.code.count,
-        s.front.types.count,
-        ran_leading 6 (export_at file) f.header.exports m.at_exports s.middle.exports,
-        s.back.handlers.reads,
+        (code_ran s).count,
+        (types_ran s).count,
+        ran_leading 6 (export_at file) f.header.exports m.at_exports (exports_ran s),
+        (handlers_ran s).reads,
       )
 
   -- the words needed, by the numbers that were counted; there are few enough
   pub sum : words_needed records ≡ f.code * instruction_width + f.types * type_width + m.items * item_width + m.exports * export_width + b.import_words + b.handler_words
   sum =
       needed records
-      ∙ rw (s.front.code.count, s.front.types.count, s.middle.items.count, s.middle.exports.count, s.back.import_wide, s.back.handler_wide)
+      ∙ rw ((code_ran s).count, (types_ran s).count, (items_ran s).count, (exports_ran s).count, (imports_ran s).size, (handlers_ran s).size)
+
+  pub sum_read : of_read 0 words_needed (parse file front) ≡ f.code * instruction_width + f.types * type_width + m.items * item_width + m.exports * export_width + b.import_words + b.handler_words
+  sum_read = rw parsed sum
 
   pub limit : length file ≤ size_limit → words_needed records ≤ word_limit
   limit small = words_limit file front b.end small (omega arith) parsed
 
+  pub few_words : length file ≤ size_limit
+      → f.code * instruction_width + f.types * type_width + m.items * item_width + m.exports * export_width + b.import_words + b.handler_words ≤ word_limit
+  few_words small = omega (arith, sum, limit small)
+
   pub whole_is : Whole (under_flag file 32 f.header.header.flags 8 (handler_at file) b.at_handlers)
-  whole_is = rw s.back.handlers.reads tt
+  whole_is = rw (handlers_ran s).reads tt
 
   -- the counts beside the words
   pub small_items : length file ≤ size_limit → m.items < 2 ^ 31
   small_items small = omega (arith, sum, limit small)
 
   pub small_imports : length file ≤ size_limit → b.imports < 2 ^ 31
-  small_imports small = omega (arith, sum, limit small, flatten_least import_words_of 1 (λ fs. omega arith) s.back.imports.records, s.back.imports.count, s.back.import_wide)
+  small_imports small = omega (arith, sum, limit small, flatten_least import_words_of 1 (λ fs. omega arith) (imports_ran s).records, (imports_ran s).count, (imports_ran s).size)
 
   pub small_handlers : length file ≤ size_limit → b.handlers < 2 ^ 31
   small_handlers small =
-      omega (arith, sum, limit small, flatten_least handled_words 1 (λ h. omega arith) s.back.handlers.records, s.back.handlers.count, s.back.handler_wide)
+      omega (arith, sum, limit small, flatten_least handled_words 1 (λ h. omega arith) (handlers_ran s).records, (handlers_ran s).count, (handlers_ran s).size)
 
   pub module_is : {i j k : ℤ} → i ≡ pos m.items → j ≡ pos b.imports → k ≡ pos b.handlers
       → besides (parse file front) (record { header = f.header.header; name = m.name; items = i; imports = j; handlers = k })
   unfolding module_of
-  module_is x y z = rw (parsed, x, y, z, s.middle.items.count, s.back.imports.count, s.back.handlers.count)
+  module_is x y z = rw (parsed, x, y, z, (items_ran s).count, (imports_ran s).count, (handlers_ran s).count)
 
   pub late_is : {o : Option Refusal} → of_read none fault_in (parse file front) ≡ o → fault_in records ≡ o
   late_is e = rw parsed at e
@@ -131,9 +139,9 @@ module _ {file : List ℕ} {f : Front} {m : Middle} {b : Back} (s : Surveyed fil
 
   -- the answers of a file that was surveyed
   module _ (l : List ℤ) (small : length file ≤ size_limit) (faultless : fault_in records ≡ none) {n : ℕ} (need : n ≡ words_needed records) where
-    pub few : length l < n → load_of file l ≡ (Refused (FewWords n), l)
+    pub few : length l < n → load_of file l ≡ (Err (FewWords n), l)
     few h = rw need (load_few file l small parsed faultless (omega (arith, need)))
 
     pub whole : {x : Module} {table : List ℤ} → n ≤ length l → x ≡ module_of records → table ≡ put 0 (of_read [] table_words (parse file front)) l
-        → load_of file l ≡ (Loaded x b.end.at n, table)
+        → load_of file l ≡ (Ok (record { «module» = x; used = b.end.at; needed = n }), table)
     whole h ex et = rw (need, ex, et, parsed) (load_whole file l small parsed faultless (omega (arith, need)))

@@ -29,7 +29,9 @@ use Rattle.load_fill.specs.Filled.{list_in}
 use Rattle.load_survey.specs.declared.Front.{Front}
 use Rattle.load_survey.specs.declared.Middle.{Middle}
 use Rattle.load_survey.specs.declared.Back.{Back}
-use Rattle.load.specs.Whole.{Surveyed, of_read}
+use Rattle.load_survey.specs.Survey.{Surveyed}
+use Rattle.load.specs.Whole.{of_read}
+use Rattle.load_survey.proofs.Facts.{code_ran, types_ran, items_ran, exports_ran, imports_ran, handlers_ran}
 use Rattle.load.proofs.Facts.{records, parsed, ran_leading}
 
 -- ---- one part after another
@@ -58,27 +60,27 @@ row_words_lem name one n c {xs} e =
 
 module _ {file : List ℕ} {f : Front} {m : Middle} {b : Back} (s : Surveyed file f m b) where
   pub code_words : flatten row_words (leading (row_at file K.Code) f.code f.at_code) ≡ flatten instruction_words (records s).code
-  code_words = row_words_lem R.instruction (instruction_at file) f.code f.at_code (ran_leading 2 (instruction_at file) f.header.code f.at_code s.front.code)
+  code_words = row_words_lem R.instruction (instruction_at file) f.code f.at_code (ran_leading 2 (instruction_at file) f.header.code f.at_code (code_ran s))
 
   pub type_words_lem : flatten row_words (leading (row_at file K.Types) f.types f.at_types) ≡ flatten type_words (records s).types
-  type_words_lem = row_words_lem R.descriptor (type_at file) f.types f.at_types (ran_leading 3 (type_at file) f.header.types f.at_types s.front.types)
+  type_words_lem = row_words_lem R.descriptor (type_at file) f.types f.at_types (ran_leading 3 (type_at file) f.header.types f.at_types (types_ran s))
 
   items_read : leading (some_of (item_at file) TooLarge) m.items f.at_items ≡ (records s).items
   items_read =
-      ap (λ (k : ℕ). leading (some_of (item_at file) TooLarge) k f.at_items) (sym s.middle.items.count)
-      ∙ many-leading (some_of (item_at file) TooLarge) (length (records s).items) f.at_items (items_many file f.at_items TooLarge s.middle.items.reads).1
+      ap (λ (k : ℕ). leading (some_of (item_at file) TooLarge) k f.at_items) (sym (items_ran s).count)
+      ∙ many-leading (some_of (item_at file) TooLarge) (length (records s).items) f.at_items (items_many file f.at_items TooLarge (items_ran s).reads).1
 
   pub item_words_lem : flatten row_words (leading (row_at file K.Items) m.items f.at_items) ≡ flatten item_words (records s).items
   item_words_lem = row_words_lem R.item (some_of (item_at file) TooLarge) m.items f.at_items items_read
 
   pub export_words_lem : flatten row_words (leading (row_at file K.Exports) m.exports m.at_exports) ≡ flatten export_words (records s).exports
-  export_words_lem = row_words_lem R.export (export_at file) m.exports m.at_exports (ran_leading 6 (export_at file) f.header.exports m.at_exports s.middle.exports)
+  export_words_lem = row_words_lem R.export (export_at file) m.exports m.at_exports (ran_leading 6 (export_at file) f.header.exports m.at_exports (exports_ran s))
 
   pub imports_read : flagged_at file G.Imports f.header.header.flags m.at_imports ≡ got (map imports (records s).imports) b.at_handlers
-  imports_read = flag_renamed file imports (import_at file) 7 64 f.header.header.flags m.at_imports ∙ rw s.back.imports.reads
+  imports_read = flag_renamed file imports (import_at file) 7 64 f.header.header.flags m.at_imports ∙ rw (imports_ran s).reads
 
   pub handlers_read : flagged_at file G.Handlers f.header.header.flags b.at_handlers ≡ got (map handled (records s).handlers) b.end
-  handlers_read = flag_renamed file handled (handler_at file) 8 32 f.header.header.flags b.at_handlers ∙ rw s.back.handlers.reads
+  handlers_read = flag_renamed file handled (handler_at file) 8 32 f.header.header.flags b.at_handlers ∙ rw (handlers_ran s).reads
 
   -- the flags are passed as their bits
   module _ {g : ℤ} (e : g ≡ f.header.header.flags) where
@@ -127,10 +129,54 @@ module _ {file : List ℕ} {f : Front} {m : Middle} {b : Back} (s : Surveyed fil
         (0 + length (flatten instruction_words (records s).code) + length (flatten type_words (records s).types) + length (flatten item_words (records s).items)
         + length (flatten export_words (records s).exports) + length (flatten import_words_of (records s).imports))
 
-  -- the whole table
-  pub table_is : {l table : List ℤ} {n place : ℕ}
-      → Sofar l (flatten instruction_words (records s).code ++ flatten type_words (records s).types ++ flatten item_words (records s).items ++ flatten export_words (records s).exports
-      ++ flatten import_words_of (records s).imports ++ flatten handled_words (records s).handlers) n place table
-      → table ≡ put 0 (of_read [] table_words (parse file front)) l
-  unfolding table_words
-  table_is t = rw (parsed s) t.stands.holds
+  -- each section has room after those before it, and then they stand together
+  module _ (l : List ℤ) (enough : words_needed (records s) ≤ length l) where
+    pub code_room : 0 + length (flatten row_words (leading (row_at file K.Code) f.code f.at_code)) ≤ length l
+    code_room = room (none_yet l) code_words (omega (arith, parts, enough))
+
+    pub code_laid : {place' : ℕ} {table' : List ℤ} → place' ≡ 0 + length (flatten row_words (leading (row_at file K.Code) f.code f.at_code))
+        → table' ≡ put 0 (flatten row_words (leading (row_at file K.Code) f.code f.at_code)) l → Code l place' table'
+    code_laid = more (none_yet l) code_words (omega (arith, parts, enough))
+
+    module _ {place : ℕ} {table : List ℤ} where
+      pub types_room : Code l place table → place + length (flatten row_words (leading (row_at file K.Types) f.types f.at_types)) ≤ length table
+      types_room t = room t type_words_lem (omega (arith, parts, enough))
+
+      pub types_laid : {place' : ℕ} {table' : List ℤ} → Code l place table → place' ≡ place + length (flatten row_words (leading (row_at file K.Types) f.types f.at_types))
+          → table' ≡ put place (flatten row_words (leading (row_at file K.Types) f.types f.at_types)) table → Types l place' table'
+      types_laid t = more t type_words_lem (omega (arith, parts, enough))
+
+      pub items_room : Types l place table → place + length (flatten row_words (leading (row_at file K.Items) m.items f.at_items)) ≤ length table
+      items_room t = room t item_words_lem (omega (arith, parts, enough))
+
+      pub items_laid : {place' : ℕ} {table' : List ℤ} → Types l place table → place' ≡ place + length (flatten row_words (leading (row_at file K.Items) m.items f.at_items))
+          → table' ≡ put place (flatten row_words (leading (row_at file K.Items) m.items f.at_items)) table → Items l place' table'
+      items_laid t = more t item_words_lem (omega (arith, parts, enough))
+
+      pub exports_room : Items l place table → place + length (flatten row_words (leading (row_at file K.Exports) m.exports m.at_exports)) ≤ length table
+      exports_room t = room t export_words_lem (omega (arith, parts, enough))
+
+      pub exports_laid : {place' : ℕ} {table' : List ℤ} → Items l place table → place' ≡ place + length (flatten row_words (leading (row_at file K.Exports) m.exports m.at_exports))
+          → table' ≡ put place (flatten row_words (leading (row_at file K.Exports) m.exports m.at_exports)) table → Exports l place' table'
+      exports_laid t = more t export_words_lem (omega (arith, parts, enough))
+
+      module _ {g : ℤ} (e : g ≡ f.header.header.flags) where
+        pub imports_room : Exports l place table → place + length (flatten group_words (list_in (flagged_at file G.Imports g m.at_imports))) ≤ length table
+        imports_room t = room t (import_words_lem e) (omega (arith, parts, enough))
+
+        pub imports_laid : {place' : ℕ} {table' : List ℤ} → Exports l place table → place' ≡ place + length (flatten group_words (list_in (flagged_at file G.Imports g m.at_imports)))
+            → table' ≡ put place (flatten group_words (list_in (flagged_at file G.Imports g m.at_imports))) table → Imports l place' table'
+        imports_laid t = more t (import_words_lem e) (omega (arith, parts, enough))
+
+        pub handlers_room : Imports l place table → place + length (flatten group_words (list_in (flagged_at file G.Handlers g b.at_handlers))) ≤ length table
+        handlers_room t = room t (handler_words_lem e) (omega (arith, parts, enough))
+
+        -- the whole table
+        pub table_is : {place' : ℕ} {table' : List ℤ} → Imports l place table → place' ≡ place + length (flatten group_words (list_in (flagged_at file G.Handlers g b.at_handlers)))
+            → table' ≡ put place (flatten group_words (list_in (flagged_at file G.Handlers g b.at_handlers))) table
+            → table' ≡ put 0 (of_read [] table_words (parse file front)) l
+        unfolding table_words
+        table_is t p h = rw parsed_here (more t (handler_words_lem e) (omega (arith, parts, enough)) p h).stands.holds
+          where
+            parsed_here : parse file front ≡ got (records s) b.end
+            parsed_here = parsed s

@@ -2,68 +2,47 @@
 ghost use Rattle.std.specs.Prelude.{◌≡◌, [], ◌≤◌, length};
 ghost use Rattle.format.specs.Put.{put};
 ghost use Rattle.format.specs.Reading as Spec;
-ghost use Rattle.format.specs.Records.{size_limit};
 ghost use Rattle.format.specs.Sections.{parse};
 ghost use Rattle.format.specs.Words.{table_words, words_needed};
-ghost use Rattle.load.specs.Whole.{Surveyed, of_read};
+ghost use Rattle.load.specs.Whole.{of_read};
 
 use format::module::{EXPORT_WIDTH, INSTRUCTION_WIDTH, ITEM_WIDTH, TYPE_WIDTH};
 use load_fill::groups::fill_section;
 use load_fill::runs::fill_rows;
-use load_survey::{Back, Front, Middle};
+use load_survey::Survey;
 use rows::Kind;
 use rows::groups::Group;
 
-pub fn words_needed(file: &[u8], front: Front, middle: Middle, back: Back) -> usize
-    requires { (length file.now ≤ size_limit) × Surveyed file.now front middle back }
-    ensures { result ≡ of_read 0 words_needed (parse file.now Spec.front) }
+#[tactic(auto, using(crate::proofs::Facts::sum_read, crate::proofs::Facts::few_words))]
+pub fn words_needed(survey: Survey) -> usize
+    ensures { result ≡ of_read 0 words_needed (parse survey.entry.file.bytes.now Spec.front) }
 {
-    front.code * INSTRUCTION_WIDTH
-        + front.types * TYPE_WIDTH
-        + middle.items * ITEM_WIDTH
-        + middle.exports * EXPORT_WIDTH
-        + back.import_words
-        + back.handler_words
+    survey.front.code * INSTRUCTION_WIDTH
+        + survey.front.types * TYPE_WIDTH
+        + survey.middle.items * ITEM_WIDTH
+        + survey.middle.exports * EXPORT_WIDTH
+        + survey.back.import_words
+        + survey.back.handler_words
 }
 
-pub fn fill_tables(file: &[u8], front: Front, middle: Middle, back: Back, words: &mut [i32])
-    requires { (length file.now ≤ size_limit) × Surveyed file.now front middle back × (of_read 0 words_needed (parse file.now Spec.front) ≤ length words.old) }
-    ensures { words.new ≡ put 0 (of_read [] table_words (parse file.now Spec.front)) words.old }
+pub fn fill_tables(survey: Survey, words: &mut [i32])
+    requires { of_read 0 words_needed (parse survey.file.bytes.now Spec.front) ≤ length words.old }
+    ensures { words.new ≡ put 0 (of_read [] table_words (parse survey.entry.file.bytes.now Spec.front)) words.old }
 {
-    let placed = front.header;
-    let header = placed.header;
-    let flags = header.flags;
-    let at_code = front.at_code;
-    let at_types = front.at_types;
-    let at_items = front.at_items;
-    let at_exports = middle.at_exports;
-    let at_imports = middle.at_imports;
-    let at_handlers = back.at_handlers;
-    let code = fill_rows(file, Kind::Code, front.code, at_code, words, 0);
-    let types = fill_rows(file, Kind::Types, front.types, at_types, words, code.place);
-    let items = fill_rows(
-        file,
-        Kind::Items,
-        middle.items,
-        at_items,
-        words,
-        types.place,
-    );
-    let exports = fill_rows(
-        file,
-        Kind::Exports,
-        middle.exports,
-        at_exports,
-        words,
-        items.place,
-    );
-    let imports = fill_section(
-        file,
-        Group::Imports,
-        flags,
-        at_imports,
-        words,
-        exports.place,
-    );
-    fill_section(file, Group::Handlers, flags, at_handlers, words, imports);
+    let file = survey.file;
+    let front = survey.front;
+    let middle = survey.middle;
+    let flags = front.header.header.flags;
+    let at = front.at_code;
+    let code = fill_rows(file, Kind::Code, front.code, at, words, 0);
+    let at = front.at_types;
+    let types = fill_rows(file, Kind::Types, front.types, at, words, code.place);
+    let at = front.at_items;
+    let items = fill_rows(file, Kind::Items, middle.items, at, words, types.place);
+    let at = middle.at_exports;
+    let exports = fill_rows(file, Kind::Exports, middle.exports, at, words, items.place);
+    let at = middle.at_imports;
+    let imports = fill_section(file, Group::Imports, flags, at, words, exports.place);
+    let at = survey.back.at_handlers;
+    fill_section(file, Group::Handlers, flags, at, words, imports);
 }

@@ -1,7 +1,7 @@
 -- One row in a run of them, and what the loops that fill share; and the words of a group: those of its head, and then those of its rows.
 -- Assumes nothing.
-use Prim.Native.Nat.{ℕ, ◌+◌, ◌-◌, ◌≤◌, ◌<◌}
-use mathlib.Core.Path.{◌≡◌, refl, sym, ap, ◌∙◌}
+use Prim.Native.Nat.{ℕ, ◌+◌, ◌-◌, ◌^◌, ◌≤◌, ◌<◌}
+use mathlib.Core.Path.{◌≡◌, refl, ap, ◌∙◌}
 use mathlib.Core.Bool.{true, false}
 use mathlib.Core.List.{List, [], ◌∷◌, ◌++◌}
 use mathlib.Core.Option.{none, some}
@@ -13,17 +13,18 @@ use Rattle.format.specs.declared.types.Cursor.{Cursor}
 use Rattle.format.specs.declared.module.DataItem.{DataItem}
 use Rattle.format.specs.declared.module.Handler.{Handler}
 use Rattle.format.specs.declared.refusal.Refusal.{Refusal}
-use Rattle.format.specs.declared.refusal.Refusal.TheVariants.{Ended, TooLarge}
+use Rattle.format.specs.declared.refusal.Refusal.TheVariants.{TooLarge}
 use Rattle.format.specs.Put.{put}
-use Rattle.format.specs.Reading.{Step, got, refused, found, short, Reads, and_then, give, many}
+use Rattle.format.specs.Reading.{Step, got, refused, Reads, and_then, give, many}
 use Rattle.law_format.specs.Loops.{then_place, leading, reached, Whole, renamed, some_of}
-use Rattle.format.specs.Operands.{operand_at}
+use Rattle.format.specs.Records.{size_limit}
 use Rattle.format.specs.Words.{flatten, case_words, handler_words_of}
-use Rattle.format.specs.Sections.{nowhere, item_at, count_in, function_at, import_at, case_at, last_at, cases_at, head_at, handler_at, closing, under_flag}
+use Rattle.format.specs.Sections.{item_at, count_in, function_at, import_at, case_at, last_at, cases_at, head_at, handler_at, closing, under_flag}
 use Rattle.law_format.proofs.Fills.{Filling, fits, turn, cut}
 use Rattle.law_format.proofs.Flatten.{flatten-append}
 use Rattle.law_format.specs.Cased.{Cased}
 use Rattle.law_format.proofs.Many.{many-length}
+use Rattle.law_format.proofs.Moves.{many_moves, function_moves}
 use Rattle.law_format.proofs.Parsed.{flag_not}
 use Rattle.law_format.proofs.Put.{put_next, put_none}
 use Rattle.law_format.proofs.Scans.{leading-renamed, reached-renamed, flatten-renamed}
@@ -48,19 +49,6 @@ row_some (R.item d) = omega arith
 row_some (R.export e) = omega arith
 row_some (R.function f) = omega arith
 row_some (R.exception_case c) = omega arith
-
--- a record by its name as a row
-module _ {A : Type 0} (name : A → Row) (read : Reads Cursor A) (c : Cursor) (w : ℕ) where
-  module _ {x : A} {q : Cursor} (e : read c ≡ got x q) where
-    pub one_room : {k : ℕ} → w + length (words_in row_words (renamed name read c)) ≤ k → w + length (row_words (name x)) ≤ k
-    one_room h = rw e at h
-
-    pub one_stored : {l : List ℤ} {r : Filled} {now : List ℤ} → r.next ≡ q → (r.place ≡ w + length (row_words (name x))) × (now ≡ put w (row_words (name x)) l)
-        → One row_words (renamed name read) c w l r now
-    one_stored a h = record { stopped = rw e a; placed = rw e h.0; holds = rw e h.1 }
-
-  pub one_refused : (l : List ℤ) {why : Refusal} → read c ≡ refused why → One row_words (renamed name read) c w l (record { next = c; place = w }) l
-  one_refused l e = record { stopped = rw e; placed = rw e (omega arith); holds = rw e (sym (put_none w l)) }
 
 -- the end of the data is no item
 module _ (file : List ℕ) (c : Cursor) where
@@ -134,6 +122,12 @@ module _ (file : List ℕ) (c : Cursor) {n : ℕ} {d : Cursor} (counts : count_i
   unfolding import_at
   functions_are = whole-many (function_at file) n d (whole_part (many (function_at file) n d) _ (rw counts at ready.reads))
 
+  -- they are in the file
+  pub functions_few : length file ≤ size_limit → n < 2 ^ 31
+  functions_few small =
+      let f = many_moves file (function_moves file) n d (reached (function_at file) n d) (leading (function_at file) n d) functions_are in
+      omega (arith, f.far, f.inside, small)
+
   pub imported : Imported file c n d w l
   unfolding import_at
   imported =
@@ -146,15 +140,6 @@ module _ (file : List ℕ) (c : Cursor) {n : ℕ} {d : Cursor} (counts : count_i
       }
 
 -- ---- a handler
-
-module _ (file : List ℕ) (c : Cursor) where
-  pub last_short : operand_at file c ≡ short → last_at file c ≡ refused (Ended 8 c.at)
-  unfolding last_at
-  last_short e = rw e
-
-  pub last_is : {pc : ℤ} {q : Cursor} → operand_at file c ≡ found pc q → last_at file c ≡ got (record { name = nowhere; pc = pc }) q
-  unfolding last_at
-  last_is e = rw e
 
 pub handler_refused : (file : List ℕ) (c : Cursor) {why : Refusal} → head_at file c ≡ refused why → group_at file G.Handlers c ≡ refused why
 unfolding handler_at

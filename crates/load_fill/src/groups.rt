@@ -1,74 +1,70 @@
 // Import modules with their functions, handlers with their cases.
-ghost use Rattle.std.specs.Prelude.{◌+◌, ◌≤◌, length};
+ghost use Rattle.std.specs.Prelude.{◌≡◌, ◌+◌, ◌≤◌, length};
 ghost use Rattle.format.specs.Reading.{many};
 ghost use Rattle.law_format.specs.Loops.{leading, Whole};
-ghost use Rattle.format.specs.Records.{size_limit};
+ghost use Rattle.law_format.specs.Views.{as_step};
 ghost use Rattle.format.specs.Sections.{last_at};
-ghost use Rattle.format.specs.Words.{flatten, case_words};
+ghost use Rattle.format.specs.Words.{flatten};
 ghost use Rattle.rows.specs.Groups.{group_at, group_words, flagged_at};
 ghost use Rattle.load_fill.specs.Filled.{Ready, One, Groups, list_in};
 
-use crate::filled::Filled;
+use crate::filled::{Filled, fill_one};
 use crate::runs::fill_rows;
-use file_handlers::{HeadRead, read_head};
-use file_pieces::{CountRead, read_count};
+use file_handlers::read_head;
+use file_pieces::read_count;
 use format::module::ExceptionCase;
-use format::types::{Cursor, Span};
-use load_store::{put_case, put_handler, put_import};
-use reader::{NumberRead, read_operand};
+use format::put::put_all;
+use format::refusal::Refusal;
+use format::types::{Cursor, File, Span};
+use load_store::Store;
+use reader::read_operand;
 use rows::Kind;
 use rows::groups::{Group, flag_of, section_of};
 
-fn fill_import(file: &[u8], c: Cursor, words: &mut [i32], w: usize) -> Filled
-    requires { (length file.now ≤ size_limit) × Ready group_words (group_at file.now Group.Imports c) w words.old }
-    ensures { One group_words (group_at file.now Group.Imports) c w words.old result words.new }
+fn fill_import(file: File, c: Cursor, words: &mut [i32], w: usize) -> Filled
+    requires { Ready group_words (group_at file.bytes.now Group.Imports c) w words.old }
+    ensures { One group_words (group_at file.entry.bytes.now Group.Imports) c w words.old result words.new }
 {
-    match read_count(file, 7, c) {
-        CountRead::Refused(_) => Filled { next: c, place: w },
-        CountRead::Got { count, next } => {
-            let place = put_import(words, w, count as i32);
-            fill_rows(file, Kind::Functions, count, next, words, place)
-        }
-    }
+    let Ok((count, next)) = read_count(file.bytes, 7, c) else {
+        return Filled { next: c, place: w };
+    };
+    let place = put_all(words, w, [count as i32]);
+    fill_rows(file, Kind::Functions, count, next, words, place)
 }
 
 // The last case: no name, only a pc.
-fn fill_last(file: &[u8], c: Cursor, words: &mut [i32], w: usize) -> Filled
-    requires { Ready case_words (last_at file.now c) w words.old }
-    ensures { One case_words (last_at file.now) c w words.old result words.new }
+#[tactic(auto, unfolding(format::specs::Sections::last_at))]
+fn read_last(file: &[u8], c: Cursor) -> Result<(ExceptionCase, Cursor), Refusal>
+    ensures { as_step result ≡ last_at file.now c }
 {
-    let NumberRead::Got { value: pc, next } = read_operand(file, c) else {
+    let Some((pc, next)) = read_operand(file, c) else {
+        return Err(Refusal::ended(8, c));
+    };
+    let name = Span { start: 0, len: 0 };
+    Ok((ExceptionCase { name, pc }, next))
+}
+
+fn fill_handler(file: File, c: Cursor, words: &mut [i32], w: usize) -> Filled
+    requires { Ready group_words (group_at file.bytes.now Group.Handlers c) w words.old }
+    ensures { One group_words (group_at file.entry.bytes.now Group.Handlers) c w words.old result words.new }
+{
+    let Ok((handler, next)) = read_head(file.bytes, c) else {
         return Filled { next: c, place: w };
     };
-    let place = put_case(
+    let cases = handler.cases as usize;
+    let place = handler.store(words, w);
+    let named = fill_rows(file, Kind::Cases, cases - 1, next, words, place);
+    fill_one(
+        read_last(file.bytes, named.next),
+        named.next,
         words,
-        w,
-        ExceptionCase {
-            name: Span { start: 0, len: 0 },
-            pc,
-        },
-    );
-    Filled { next, place }
+        named.place,
+    )
 }
 
-fn fill_handler(file: &[u8], c: Cursor, words: &mut [i32], w: usize) -> Filled
-    requires { (length file.now ≤ size_limit) × Ready group_words (group_at file.now Group.Handlers c) w words.old }
-    ensures { One group_words (group_at file.now Group.Handlers) c w words.old result words.new }
-{
-    match read_head(file, c) {
-        HeadRead::Refused(_) => Filled { next: c, place: w },
-        HeadRead::Got { handler, next } => {
-            let cases = handler.cases as usize;
-            let place = put_handler(words, w, handler);
-            let named = fill_rows(file, Kind::Cases, cases - 1, next, words, place);
-            fill_last(file, named.next, words, named.place)
-        }
-    }
-}
-
-fn fill_group(file: &[u8], group: Group, c: Cursor, words: &mut [i32], w: usize) -> Filled
-    requires { (length file.now ≤ size_limit) × Ready group_words (group_at file.now group c) w words.old }
-    ensures { One group_words (group_at file.now group) c w words.old result words.new }
+fn fill_group(file: File, group: Group, c: Cursor, words: &mut [i32], w: usize) -> Filled
+    requires { Ready group_words (group_at file.bytes.now group c) w words.old }
+    ensures { One group_words (group_at file.entry.bytes.now group) c w words.old result words.new }
 {
     match group {
         Group::Imports => fill_import(file, c, words, w),
@@ -76,39 +72,37 @@ fn fill_group(file: &[u8], group: Group, c: Cursor, words: &mut [i32], w: usize)
     }
 }
 
-fn fill_groups(file: &[u8], group: Group, n: usize, c: Cursor, words: &mut [i32], w: usize) -> usize
-    requires { (length file.now ≤ size_limit) × Whole (many (group_at file.now group) n c) × (w + length (flatten group_words (leading (group_at file.now group) n c)) ≤ length words.old) }
-    ensures { Groups (leading (group_at file.now group) n c) w words.old result words.new }
+fn fill_groups(file: File, group: Group, n: usize, c: Cursor, words: &mut [i32], w: usize) -> usize
+    requires { Whole (many (group_at file.bytes.now group) n c) × (w + length (flatten group_words (leading (group_at file.bytes.now group) n c)) ≤ length words.old) }
+    ensures { Groups (leading (group_at file.entry.bytes.now group) n c) w words.old result words.new }
 {
     let mut here = c;
-    let mut left = n;
     let mut place = w;
-    while 0 < left {
+    for _ in 0..n {
         let filled = fill_group(file, group, here, words, place);
         here = filled.next;
         place = filled.place;
-        left -= 1;
     }
     place
 }
 
 // A section under its flag.
 pub fn fill_section(
-    file: &[u8],
+    file: File,
     group: Group,
     flags: i32,
     c: Cursor,
     words: &mut [i32],
     w: usize,
 ) -> usize
-    requires { (length file.now ≤ size_limit) × Whole (flagged_at file.now group flags c) × (w + length (flatten group_words (list_in (flagged_at file.now group flags c))) ≤ length words.old) }
-    ensures { Groups (list_in (flagged_at file.now group flags c)) w words.old result words.new }
+    requires { Whole (flagged_at file.bytes.now group flags c) × (w + length (flatten group_words (list_in (flagged_at file.bytes.now group flags c))) ≤ length words.old) }
+    ensures { Groups (list_in (flagged_at file.entry.bytes.now group flags c)) w words.old result words.new }
 {
     if !flag_of(group, flags) {
         return w;
     }
-    match read_count(file, section_of(group), c) {
-        CountRead::Refused(_) => w,
-        CountRead::Got { count, next } => fill_groups(file, group, count, next, words, w),
-    }
+    let Ok((count, next)) = read_count(file.bytes, section_of(group), c) else {
+        return w;
+    };
+    fill_groups(file, group, count, next, words, w)
 }

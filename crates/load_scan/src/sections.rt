@@ -1,47 +1,33 @@
 // Sections whose records have no fixed size: data items, import modules with their functions, handlers with their cases.
-ghost use Rattle.std.specs.Prelude.{◌≡◌, ◌≤◌, length};
+ghost use Rattle.std.specs.Prelude.{◌≡◌};
 ghost use Rattle.format.specs.Reading.{many};
 ghost use Rattle.law_format.specs.Loops.{end_of, tally};
-ghost use Rattle.format.specs.Records.{size_limit};
 ghost use Rattle.format.specs.Sections.{items_at, closing};
-ghost use Rattle.file_pieces.specs.View.{count_read};
-ghost use Rattle.reader.specs.View.{end_read};
-ghost use Rattle.rows.specs.Groups.{group_at, group_weight, flagged_at};
-ghost use Rattle.load_scan.specs.Sums.{section_read, one, weighed, summed};
+ghost use Rattle.law_format.specs.Views.{as_step, as_end};
+ghost use Rattle.rows.specs.Groups.{group_at, group_words, group_weight, flagged_at};
+ghost use Rattle.load_scan.specs.Sums.{one, weighed, sums};
 
 use crate::runs::scan_rows;
 use file_data::skip::{ItemEnd, skip_item};
-use file_handlers::{HeadRead, read_head};
-use file_pieces::{CountRead, read_count};
+use file_handlers::read_head;
+use file_pieces::read_count;
 use format::module::{CASE_WIDTH, FUNCTION_WIDTH, HANDLER_WIDTH, IMPORT_WIDTH};
 use format::refusal::Refusal;
-use format::types::Cursor;
-use reader::{ByteRead, EndRead, NumberRead, read_byte, read_operand};
+use format::types::{Cursor, File};
+use reader::{read_byte, read_operand};
 use rows::Kind;
 use rows::groups::{Group, flag_of, section_of};
 
-// How many records a section has, and how many table words they need.
-#[derive(Clone, Copy)]
-pub enum SectionRead {
-    Got {
-        count: usize,
-        words: usize,
-        next: Cursor,
-    },
-    Refused(Refusal),
-}
-
-// The items up to the end of the data.
-pub fn scan_items(file: &[u8], c: Cursor) -> CountRead
-    requires { length file.now ≤ size_limit }
-    ensures { count_read result ≡ tally one (items_at file.now c) }
+// How many items there are up to the end of the data.
+#[tactic(auto, using(crate::proofs::Facts::items_refused, crate::proofs::Facts::items_done, crate::proofs::Facts::items_turned, crate::proofs::Facts::item_onward, law_format::proofs::Scans::plus_zero))]
+pub fn scan_items(file: File, c: Cursor) -> Result<(usize, Cursor), Refusal>
+    ensures { as_step result ≡ tally one (items_at file.entry.bytes.now c) }
 {
     let mut here = c;
     let mut count: usize = 0;
     loop {
-        match skip_item(file, here) {
-            ItemEnd::Refused(why) => return CountRead::Refused(why),
-            ItemEnd::End { next } => return CountRead::Got { count, next },
+        match skip_item(file.bytes, here)? {
+            ItemEnd::End { next } => return Ok((count, next)),
             ItemEnd::Item { next } => {
                 here = next;
             }
@@ -51,53 +37,31 @@ pub fn scan_items(file: &[u8], c: Cursor) -> CountRead
 }
 
 // An import module: a word, and three for each of its functions.
-fn scan_import(file: &[u8], c: Cursor) -> CountRead
-    requires { length file.now ≤ size_limit }
-    ensures { count_read result ≡ weighed (group_at file.now Group.Imports c) }
+#[tactic(auto, using(crate::proofs::Facts::import_refused, crate::proofs::Facts::import_stops, crate::proofs::Facts::import_ends, crate::proofs::Facts::import_small))]
+fn scan_import(file: File, c: Cursor) -> Result<(usize, Cursor), Refusal>
+    ensures { as_step result ≡ weighed (group_at file.entry.bytes.now Group.Imports c) }
 {
-    match read_count(file, 7, c) {
-        CountRead::Refused(why) => CountRead::Refused(why),
-        CountRead::Got { count, next: d } => match scan_rows(file, Kind::Functions, count, d) {
-            EndRead::Refused(why) => CountRead::Refused(why),
-            EndRead::Done { next } => CountRead::Got {
-                count: IMPORT_WIDTH + count * FUNCTION_WIDTH,
-                next,
-            },
-        },
-    }
+    let (count, d) = read_count(file.bytes, 7, c)?;
+    let next = scan_rows(file, Kind::Functions, count, d)?;
+    Ok((IMPORT_WIDTH + count * FUNCTION_WIDTH, next))
 }
 
 // A handler: five words, and three for each of its cases, the last of which has no name.
-fn scan_handler(file: &[u8], c: Cursor) -> CountRead
-    requires { length file.now ≤ size_limit }
-    ensures { count_read result ≡ weighed (group_at file.now Group.Handlers c) }
+#[tactic(auto, using(crate::proofs::Facts::head_refused, crate::proofs::Facts::cases_fit, crate::proofs::Facts::cases_least, crate::proofs::Facts::cases_most, crate::proofs::Facts::cases_stop, crate::proofs::Facts::last_short, crate::proofs::Facts::last_found))]
+fn scan_handler(file: File, c: Cursor) -> Result<(usize, Cursor), Refusal>
+    ensures { as_step result ≡ weighed (group_at file.entry.bytes.now Group.Handlers c) }
 {
-    match read_head(file, c) {
-        HeadRead::Refused(why) => CountRead::Refused(why),
-        HeadRead::Got { handler, next: d } => {
-            let cases = handler.cases as usize;
-            match scan_rows(file, Kind::Cases, cases - 1, d) {
-                EndRead::Refused(why) => CountRead::Refused(why),
-                EndRead::Done { next: e } => {
-                    let NumberRead::Got { value: _, next } = read_operand(file, e) else {
-                        return CountRead::Refused(Refusal::Ended {
-                            section: 8,
-                            place: e.at,
-                        });
-                    };
-                    CountRead::Got {
-                        count: HANDLER_WIDTH + cases * CASE_WIDTH,
-                        next,
-                    }
-                }
-            }
-        }
-    }
+    let (handler, d) = read_head(file.bytes, c)?;
+    let cases = handler.cases as usize;
+    let e = scan_rows(file, Kind::Cases, cases - 1, d)?;
+    let Some((_, next)) = read_operand(file.bytes, e) else {
+        return Err(Refusal::ended(8, e));
+    };
+    Ok((HANDLER_WIDTH + cases * CASE_WIDTH, next))
 }
 
-fn scan_group(file: &[u8], group: Group, c: Cursor) -> CountRead
-    requires { length file.now ≤ size_limit }
-    ensures { count_read result ≡ weighed (group_at file.now group c) }
+fn scan_group(file: File, group: Group, c: Cursor) -> Result<(usize, Cursor), Refusal>
+    ensures { as_step result ≡ weighed (group_at file.entry.bytes.now group c) }
 {
     match group {
         Group::Imports => scan_import(file, c),
@@ -106,73 +70,54 @@ fn scan_group(file: &[u8], group: Group, c: Cursor) -> CountRead
 }
 
 // The table words of n groups, and where they end.
-fn scan_groups(file: &[u8], group: Group, n: usize, c: Cursor) -> CountRead
-    requires { length file.now ≤ size_limit }
-    ensures { count_read result ≡ tally group_weight (many (group_at file.now group) n c) }
+#[tactic(auto, using(law_format::proofs::Scans::plus_zero, crate::proofs::Facts::group_far, crate::proofs::Facts::groups_turn, crate::proofs::Facts::groups_stop, crate::proofs::Facts::groups_done))]
+fn scan_groups(file: File, group: Group, n: usize, c: Cursor) -> Result<(usize, Cursor), Refusal>
+    ensures { as_step result ≡ tally group_weight (many (group_at file.entry.bytes.now group) n c) }
 {
     let mut here = c;
-    let mut left = n;
     let mut words: usize = 0;
-    while 0 < left {
-        match scan_group(file, group, here) {
-            CountRead::Refused(why) => return CountRead::Refused(why),
-            CountRead::Got { count, next } => {
-                words += count;
-                here = next;
-            }
-        }
-        left -= 1;
+    for _ in 0..n {
+        let (count, next) = scan_group(file, group, here)?;
+        words += count;
+        here = next;
     }
-    CountRead::Got {
-        count: words,
-        next: here,
-    }
+    Ok((words, here))
 }
 
 // The closing byte of a section.
-fn close(file: &[u8], section: u8, c: Cursor) -> EndRead
-    ensures { end_read result ≡ end_of (closing file.now section c) }
+#[tactic(auto, unfolding(format::specs::Sections::closing, law_format::specs::Loops::end_of))]
+fn close(file: &[u8], section: u8, c: Cursor) -> Result<Cursor, Refusal>
+    ensures { as_end result ≡ end_of (closing file.now section c) }
 {
-    let ByteRead::Got { value: byte, next } = read_byte(file, c) else {
-        return EndRead::Refused(Refusal::Ended {
+    let Some((byte, next)) = read_byte(file, c) else {
+        return Err(Refusal::ended(section, c));
+    };
+    if byte != 0 {
+        return Err(Refusal::NotClosed {
             section,
             place: c.at,
+            byte,
         });
-    };
-    if byte == 0 {
-        return EndRead::Done { next };
     }
-    EndRead::Refused(Refusal::NotClosed {
-        section,
-        place: c.at,
-        byte,
-    })
+    Ok(next)
 }
 
-// A counted section with its closing byte, only under its flag.
-pub fn scan_section(file: &[u8], group: Group, flags: i32, c: Cursor) -> SectionRead
-    requires { length file.now ≤ size_limit }
-    ensures { section_read result ≡ summed (flagged_at file.now group flags c) }
+// How many records a counted section with its closing byte has, only under its flag, and how many table words they need.
+#[tactic(auto, using(crate::proofs::Facts::section_not, crate::proofs::Facts::section_count, crate::proofs::Facts::section_groups, crate::proofs::Facts::section_stops, crate::proofs::Facts::section_ends))]
+pub fn scan_section(
+    file: File,
+    group: Group,
+    flags: i32,
+    c: Cursor,
+) -> Result<((usize, usize), Cursor), Refusal>
+    ensures { as_step result ≡ sums group_words (flagged_at file.entry.bytes.now group flags c) }
 {
     if !flag_of(group, flags) {
-        return SectionRead::Got {
-            count: 0,
-            words: 0,
-            next: c,
-        };
+        return Ok(((0, 0), c));
     }
     let section = section_of(group);
-    match read_count(file, section, c) {
-        CountRead::Refused(why) => SectionRead::Refused(why),
-        CountRead::Got { count, next: d } => match scan_groups(file, group, count, d) {
-            CountRead::Refused(why) => SectionRead::Refused(why),
-            CountRead::Got {
-                count: words,
-                next: e,
-            } => match close(file, section, e) {
-                EndRead::Refused(why) => SectionRead::Refused(why),
-                EndRead::Done { next } => SectionRead::Got { count, words, next },
-            },
-        },
-    }
+    let (count, d) = read_count(file.bytes, section, c)?;
+    let (words, e) = scan_groups(file, group, count, d)?;
+    let next = close(file.bytes, section, e)?;
+    Ok(((count, words), next))
 }

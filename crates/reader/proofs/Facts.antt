@@ -11,11 +11,6 @@ use mir.Val.{to_z, of_z}
 use Rattle.bits.specs.Bits.{signed}
 use Rattle.format.specs.declared.types.Cursor.{Cursor}
 use Rattle.format.specs.Reading.{Read, found, short}
-use Rattle.bits.proofs.Signs.{kept}
-use Rattle.law_format.proofs.Told.{told}
-use Rattle.reader.specs.declared.NumberRead.{NumberRead}
-use Rattle.reader.specs.declared.NumberRead.TheVariants.{Got, Short}
-use Rattle.reader.specs.View.{number_read}
 
 -- an answer whose value and next place are those of the reading
 pub found_as : {A : Type 0} {o : Read A} {v w : A} {m n : Cursor} → o ≡ found w n → v ≡ w → m ≡ n → found v m ≡ o
@@ -28,13 +23,3 @@ low_six n = and_mask n 6
 -- seven bits of which the highest is set are the byte less 128
 pub less_128 : (b : ℕ) → 64 ≤ b → b < 128 → signed 64 b ≡ pos b -ℤ pos 128
 less_128 b m h = rw (le-ltb b 64 m, lt-ltb b 128 h)
-
--- a number that was read is used by its bits
-abbrev pub NumberIs : Read ℤ → ℤ → Cursor → Type 0
-NumberIs o v next = o ≡ found (to_z w32 (of_z w32 v)) next
-
-pub number_told : {r : NumberRead} {o : Read ℤ} {v : ℤ} {n : Cursor} → number_read r ≡ o → r ≡ Got v n → mag v < 2 ^ 31 → o ≡ found (to_z w32 (of_z w32 v)) n
-number_told {v} e q h = rw (kept v h) (told number_read e q)
-
-pub number_short : {r : NumberRead} {o : Read ℤ} → number_read r ≡ o → r ≡ Short → o ≡ short
-number_short e q = told number_read e q

@@ -3,151 +3,96 @@
 
 ghost use Rattle.std.specs.Prelude.{◌≡◌};
 ghost use Rattle.format.specs.Operands.{byte_at, operand_at, word_at, name_at, span_at};
-ghost use Rattle.reader.specs.View.{byte_read, number_read, span_read};
+ghost use Rattle.law_format.specs.Views.{as_read, part_read};
 
 use bits::{be16, be32, signed};
-use format::refusal::Refusal;
-use format::types::Cursor;
+use format::types::{Cursor, Part};
 
-#[derive(Clone, Copy)]
-pub enum ByteRead {
-    Got { value: u8, next: Cursor },
-    Short,
-}
-
-// An operand or a word.
-#[derive(Clone, Copy)]
-pub enum NumberRead {
-    Got { value: i32, next: Cursor },
-    Short,
-}
-
-// A name without its zero byte, or a counted span.
-#[derive(Clone, Copy)]
-pub enum SpanRead {
-    Got {
-        start: usize,
-        len: usize,
-        next: Cursor,
-    },
-    Short,
-}
-
-// Where what is passed over ends.
-#[derive(Clone, Copy)]
-pub enum EndRead {
-    Done { next: Cursor },
-    Refused(Refusal),
-}
-
-pub fn read_byte(file: &[u8], c: Cursor) -> ByteRead
-    ensures { byte_read result ≡ byte_at file.now c }
+// What stands at a cursor, and the place after it; none where the file ends inside it.
+#[tactic(auto, using(law_format::proofs::OperandCases::byte_there, law_format::proofs::OperandCases::byte_past), unfolding(format::specs::Operands::byte_at))]
+pub fn read_byte(file: &[u8], c: Cursor) -> Option<(u8, Cursor)>
+    ensures { as_read result ≡ byte_at file.now c }
 {
-    let at = c.at;
-    if file.len() <= at {
-        return ByteRead::Short;
-    }
-    ByteRead::Got {
-        value: file[at],
-        next: c.past(1),
-    }
+    let byte = file.get(c.at)?;
+    Some((*byte, c.past(1)))
 }
 
 // The top two bits of the first byte choose the form.
-pub fn read_operand(file: &[u8], c: Cursor) -> NumberRead
-    ensures { number_read result ≡ operand_at file.now c }
+pub fn read_operand(file: &[u8], c: Cursor) -> Option<(i32, Cursor)>
+    ensures { as_read result ≡ operand_at file.now c }
 {
     let at = c.at;
     if file.len() <= at {
-        return NumberRead::Short;
+        return None;
     }
     let left = file.len() - at;
     let b = file[at];
     match b {
-        0..=63 => NumberRead::Got {
-            value: b as i32,
-            next: c.past(1),
-        },
-        64..=127 => NumberRead::Got {
-            value: signed(0x40, b as u32),
-            next: c.past(1),
-        },
+        0..=63 => Some((b as i32, c.past(1))),
+        64..=127 => Some((signed(0x40, b as u32), c.past(1))),
         128..=191 => {
             if left < 2 {
-                return NumberRead::Short;
+                return None;
             }
-            NumberRead::Got {
-                value: signed(0x2000, be16(b & 0x3F, file[at + 1])),
-                next: c.past(2),
-            }
+            Some((signed(0x2000, be16(b & 0x3F, file[at + 1])), c.past(2)))
         }
         192..=255 => {
             if left < 4 {
-                return NumberRead::Short;
+                return None;
             }
-            NumberRead::Got {
-                value: signed(
+            Some((
+                signed(
                     0x2000_0000,
                     be32(b & 0x3F, file[at + 1], file[at + 2], file[at + 3]),
                 ),
-                next: c.past(4),
-            }
+                c.past(4),
+            ))
         }
     }
 }
 
-pub fn read_word(file: &[u8], c: Cursor) -> NumberRead
-    ensures { number_read result ≡ word_at file.now c }
+pub fn read_word(file: &[u8], c: Cursor) -> Option<(i32, Cursor)>
+    ensures { as_read result ≡ word_at file.now c }
 {
     let at = c.at;
     if file.len() <= at {
-        return NumberRead::Short;
+        return None;
     }
     if file.len() - at < 4 {
-        return NumberRead::Short;
+        return None;
     }
-    NumberRead::Got {
-        value: signed(
+    Some((
+        signed(
             0x8000_0000,
             be32(file[at], file[at + 1], file[at + 2], file[at + 3]),
         ),
-        next: c.past(4),
-    }
+        c.past(4),
+    ))
 }
 
 // Up to the first zero byte.
-pub fn read_name(file: &[u8], c: Cursor) -> SpanRead
-    ensures { span_read result ≡ name_at file.now c }
+pub fn read_name(file: &[u8], c: Cursor) -> Option<(Part, Cursor)>
+    ensures { part_read result ≡ name_at file.now c }
 {
     let start = c.at;
-    let mut i = start;
-    while i < file.len() {
-        if file[i] == 0 {
-            let len = i - start;
-            return SpanRead::Got {
-                start,
-                len,
-                next: c.past(len + 1),
-            };
+    for at in start..file.len() {
+        if file[at] == 0 {
+            let len = at - start;
+            return Some((Part { start, len }, c.past(len + 1)));
         }
-        i += 1;
     }
-    SpanRead::Short
+    None
 }
 
-pub fn read_span(file: &[u8], len: usize, c: Cursor) -> SpanRead
-    ensures { span_read result ≡ span_at file.now len c }
+pub fn read_span(file: &[u8], len: usize, c: Cursor) -> Option<(Part, Cursor)>
+    ensures { part_read result ≡ span_at file.now len c }
 {
     let start = c.at;
     if file.len() < start {
-        return SpanRead::Short;
+        return None;
     }
     if file.len() - start < len {
-        return SpanRead::Short;
+        return None;
     }
-    SpanRead::Got {
-        start,
-        len,
-        next: c.past(len),
-    }
+    Some((Part { start, len }, c.past(len)))
 }

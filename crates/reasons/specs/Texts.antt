@@ -1,25 +1,23 @@
 -- Plain words for refusals: by number, what the refusal says, what its place is and what its detail is; and the sections' names.
-use Rattle.std.specs.Prelude.{ℕ, ◌-◌, cond, List, [], ◌∷◌, ◌++◌, ltb, eqb, length, get_or, take, replicate}
-use Prim.Native.Char.{code}
-use Prim.Native.String.{String, [] as ε, ◌∷◌ as ◌∷ₛ◌}
-use Rattle.reasons.specs.declared.Text.{Text}
+use Rattle.std.specs.Borrow.{Bor}
+use Rattle.std.specs.Prelude.{ℕ, cond, List, [], ◌∷◌, ltb, length, get_or, map, codes}
+use Prim.Native.String.{String}
 
--- the bytes of a text; these have no character past 127
-abbrev pub letters : String → List ℕ
-letters ε = []
-letters (c ∷ₛ s) = code c ∷ letters s
+-- what stands in a row of a list, and in its first row where the list is shorter
+abbrev pub row_of : List (List ℕ) → ℕ → List ℕ
+row_of rows n = get_or rows (cond (ltb n (length rows)) n 0) []
 
--- what stands in the first len bytes
-abbrev pub said : Text → List ℕ
-said t = take t.len t.bytes
+-- the texts of a table of the code
+abbrev pub said : List (Bor (List ℕ)) → List (List ℕ)
+said texts = map (λ text. text.now) texts
 
 -- the text of a number in a list, and the first one of the list where that is shorter
-unfoldable pub told : List String → ℕ → List ℕ
-told texts n = letters (get_or texts (cond (ltb n (length texts)) n 0) "")
+abbrev pub told : List String → ℕ → List ℕ
+told texts n = row_of (map codes texts) n
 
 -- ---- the texts
 
-unfoldable pub reasons : List String
+abbrev pub reasons : List String
 reasons =
     "there is no such refusal" ∷
     "the file, or what is to be written, is longer than 16777216 bytes" ∷
@@ -49,7 +47,7 @@ reasons =
     "the module has no export of this number" ∷
     []
 
-unfoldable pub places : List String
+abbrev pub places : List String
 places =
     "nothing, and always 0" ∷
     "nothing, and always 0" ∷
@@ -79,7 +77,7 @@ places =
     "nothing, and always 0" ∷
     []
 
-unfoldable pub details : List String
+abbrev pub details : List String
 details =
     "nothing, and always 0" ∷
     "nothing, and always 0" ∷
@@ -109,7 +107,7 @@ details =
     "the number that was asked for" ∷
     []
 
-unfoldable pub sections : List String
+abbrev pub sections : List String
 sections =
     "none" ∷
     "header" ∷
@@ -121,22 +119,3 @@ sections =
     "imports" ∷
     "handlers" ∷
     []
-
--- ---- texts in rows of one width
-
--- filled up with spaces
-abbrev pub filled : List ℕ → List ℕ
-filled cs = cs ++ replicate (72 - length cs) 32
-
-unfoldable pub rows : List String → List ℕ
-rows [] = []
-rows (text ∷ texts) = filled (letters text) ++ rows texts
-
--- without the spaces at its end
-abbrev pub before : ℕ → List ℕ → List ℕ
-before b [] = cond (eqb b 32) [] (b ∷ [])
-before b (c ∷ cs) = b ∷ c ∷ cs
-
-unfoldable pub trimmed : List ℕ → List ℕ
-trimmed [] = []
-trimmed (b ∷ bs) = before b (trimmed bs)

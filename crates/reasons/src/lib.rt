@@ -1,179 +1,133 @@
 // Plain words for the four numbers of a refusal: what its number says, what its place and its detail are, and the name of
-// a section. The texts stand in rows of one width, filled up with spaces.
+// a section.
 #![tactic(auto)]
 
-ghost use Rattle.std.specs.Prelude.{◌≡◌, cond, ◌+◌, ◌*◌, ◌≤◌, ltb, length, take, drop};
-ghost use Rattle.reasons.specs.Texts.{said, trimmed, told, reasons, places, details, sections};
+ghost use Rattle.std.specs.Prelude.{◌≡◌, ◌<◌, length};
+ghost use Rattle.reasons.specs.Texts.{row_of, said, told, reasons, places, details, sections};
 
-use write_pieces::put_bytes;
+const REASONS: [&str; 26] = [
+    "there is no such refusal",
+    "the file, or what is to be written, is longer than 16777216 bytes",
+    "the file ends inside a byte, an operand, a word, a span or a name",
+    "the file does not begin with the magic number of a module",
+    "a count, or the length of a signature or of a map, is negative",
+    "a data item has a negative offset",
+    "there is no such instruction: the codes end at 175",
+    "an operand has an addressing mode that means nothing",
+    "there is no such kind of data: the kinds are 1 to 8",
+    "the imports or the handlers do not close with a zero byte",
+    "the module starts at a pc that is outside its code",
+    "the module starts with a frame type that it does not have",
+    "the flags 1 and 2 are both set, and each excludes the other",
+    "an export leads past the end of the code",
+    "an export has a frame type that the module does not have",
+    "a handler begins outside the code",
+    "a handler ends outside the code",
+    "a handler ends where it begins, or before",
+    "a handler has a frame type that the module does not have",
+    "a case of a handler leads outside the code",
+    "the module needs more table words than there are",
+    "a number does not fit the 30 bits that an operand has",
+    "the tables are not well-formed",
+    "there are imports or handlers, and the flags say that there are none",
+    "the output has less room than the module needs",
+    "the module has no export of this number",
+];
 
-// A text, in the first len bytes.
-#[derive(Clone, Copy)]
-pub struct Text {
-    pub bytes: [u8; 72],
-    pub len: usize,
-}
+const PLACES: [&str; 26] = [
+    "nothing, and always 0",
+    "nothing, and always 0",
+    "the byte where that piece starts",
+    "nothing, and always 0",
+    "the byte where it starts",
+    "the byte where it starts",
+    "the byte that has it",
+    "the byte that has the modes",
+    "the byte that has the kind",
+    "the byte that should be zero",
+    "nothing, and always 0",
+    "nothing, and always 0",
+    "nothing, and always 0",
+    "the export, counted from 0",
+    "the export, counted from 0",
+    "the handler, counted from 0",
+    "the handler, counted from 0",
+    "the handler, counted from 0",
+    "the handler, counted from 0",
+    "the handler, counted from 0",
+    "nothing, and always 0",
+    "the first word of the record, or 0 in the header",
+    "the first word of the first bad record, or 0 outside the records",
+    "nothing, and always 0",
+    "nothing, and always 0",
+    "nothing, and always 0",
+];
 
-const REASONS: [u8; 1872] = *b"\
-there is no such refusal                                                \
-the file, or what is to be written, is longer than 16777216 bytes       \
-the file ends inside a byte, an operand, a word, a span or a name       \
-the file does not begin with the magic number of a module               \
-a count, or the length of a signature or of a map, is negative          \
-a data item has a negative offset                                       \
-there is no such instruction: the codes end at 175                      \
-an operand has an addressing mode that means nothing                    \
-there is no such kind of data: the kinds are 1 to 8                     \
-the imports or the handlers do not close with a zero byte               \
-the module starts at a pc that is outside its code                      \
-the module starts with a frame type that it does not have               \
-the flags 1 and 2 are both set, and each excludes the other             \
-an export leads past the end of the code                                \
-an export has a frame type that the module does not have                \
-a handler begins outside the code                                       \
-a handler ends outside the code                                         \
-a handler ends where it begins, or before                               \
-a handler has a frame type that the module does not have                \
-a case of a handler leads outside the code                              \
-the module needs more table words than there are                        \
-a number does not fit the 30 bits that an operand has                   \
-the tables are not well-formed                                          \
-there are imports or handlers, and the flags say that there are none    \
-the output has less room than the module needs                          \
-the module has no export of this number                                 ";
+const DETAILS: [&str; 26] = [
+    "nothing, and always 0",
+    "nothing, and always 0",
+    "nothing, and always 0",
+    "the number that stands there",
+    "its value",
+    "its value",
+    "the code",
+    "the mode",
+    "the kind",
+    "the byte that stands there",
+    "the pc",
+    "the type",
+    "the flags",
+    "the pc",
+    "the type",
+    "where it begins",
+    "where it ends",
+    "where it ends",
+    "the type",
+    "the case, counted from 0",
+    "how many words it needs",
+    "the number",
+    "nothing, and always 0",
+    "the flags",
+    "how many bytes it needs",
+    "the number that was asked for",
+];
 
-const PLACES: [u8; 1872] = *b"\
-nothing, and always 0                                                   \
-nothing, and always 0                                                   \
-the byte where that piece starts                                        \
-nothing, and always 0                                                   \
-the byte where it starts                                                \
-the byte where it starts                                                \
-the byte that has it                                                    \
-the byte that has the modes                                             \
-the byte that has the kind                                              \
-the byte that should be zero                                            \
-nothing, and always 0                                                   \
-nothing, and always 0                                                   \
-nothing, and always 0                                                   \
-the export, counted from 0                                              \
-the export, counted from 0                                              \
-the handler, counted from 0                                             \
-the handler, counted from 0                                             \
-the handler, counted from 0                                             \
-the handler, counted from 0                                             \
-the handler, counted from 0                                             \
-nothing, and always 0                                                   \
-the first word of the record, or 0 in the header                        \
-the first word of the first bad record, or 0 outside the records        \
-nothing, and always 0                                                   \
-nothing, and always 0                                                   \
-nothing, and always 0                                                   ";
+const SECTIONS: [&str; 9] = [
+    "none", "header", "code", "types", "data", "name", "exports", "imports", "handlers",
+];
 
-const DETAILS: [u8; 1872] = *b"\
-nothing, and always 0                                                   \
-nothing, and always 0                                                   \
-nothing, and always 0                                                   \
-the number that stands there                                            \
-its value                                                               \
-its value                                                               \
-the code                                                                \
-the mode                                                                \
-the kind                                                                \
-the byte that stands there                                              \
-the pc                                                                  \
-the type                                                                \
-the flags                                                               \
-the pc                                                                  \
-the type                                                                \
-where it begins                                                         \
-where it ends                                                           \
-where it ends                                                           \
-the type                                                                \
-the case, counted from 0                                                \
-how many words it needs                                                 \
-the number                                                              \
-nothing, and always 0                                                   \
-the flags                                                               \
-how many bytes it needs                                                 \
-the number that was asked for                                           ";
-
-const SECTIONS: [u8; 648] = *b"\
-none                                                                    \
-header                                                                  \
-code                                                                    \
-types                                                                   \
-data                                                                    \
-name                                                                    \
-exports                                                                 \
-imports                                                                 \
-handlers                                                                ";
-
-// How long a row is without the spaces at its end.
-fn trimmed_len(row: &[u8]) -> usize
-    ensures { (take result row.now ≡ trimmed row.now) × (result ≤ length row.now) }
+// The text of a row; the first, where there are not so many.
+fn row(texts: &[&'static str], number: u8) -> &'static str
+    requires { 0 < length texts.now }
+    ensures { result.now ≡ row_of (said texts.now) number }
 {
-    let mut n = row.len();
-    while 0 < n {
-        if row[n - 1] != b' ' {
-            return n;
-        }
-        n -= 1;
-    }
-    0
-}
-
-// The text of row k.
-fn text_at(rows: &[u8], k: usize) -> Text
-    requires { k * 72 + 72 ≤ length rows.now }
-    ensures { (said result ≡ trimmed (take 72 (drop (k * 72) rows.now))) × (result.len ≤ length result.bytes) }
-{
-    let mut bytes = [0u8; 72];
-    let from = k * 72;
-    let row = &rows[from..from + 72];
-    put_bytes(&mut bytes, 0, row);
-    Text {
-        bytes,
-        len: trimmed_len(row),
-    }
-}
-
-// The row of a number: the first, where there are not so many.
-fn row_of(number: u8, count: usize) -> usize
-    ensures { result ≡ cond (ltb number count) number 0 }
-{
-    let k = number as usize;
-    if k < count { k } else { 0 }
+    texts.get(usize::from(number)).unwrap_or(&texts[0])
 }
 
 // What a refusal's number says.
-pub fn reason(number: u8) -> Text
-    ensures { (said result ≡ told reasons number) × (result.len ≤ length result.bytes) }
+pub fn reason(number: u8) -> &'static str
+    ensures { result.now ≡ told reasons number }
 {
-    let rows = REASONS;
-    text_at(&rows, row_of(number, 26))
+    row(&REASONS, number)
 }
 
 // What the place is, in a refusal of that number.
-pub fn place(number: u8) -> Text
-    ensures { (said result ≡ told places number) × (result.len ≤ length result.bytes) }
+pub fn place(number: u8) -> &'static str
+    ensures { result.now ≡ told places number }
 {
-    let rows = PLACES;
-    text_at(&rows, row_of(number, 26))
+    row(&PLACES, number)
 }
 
 // What the detail is, in a refusal of that number.
-pub fn detail(number: u8) -> Text
-    ensures { (said result ≡ told details number) × (result.len ≤ length result.bytes) }
+pub fn detail(number: u8) -> &'static str
+    ensures { result.now ≡ told details number }
 {
-    let rows = DETAILS;
-    text_at(&rows, row_of(number, 26))
+    row(&DETAILS, number)
 }
 
 // The section of that number, in document 01's order; 0 is none.
-pub fn section(number: u8) -> Text
-    ensures { (said result ≡ told sections number) × (result.len ≤ length result.bytes) }
+pub fn section(number: u8) -> &'static str
+    ensures { result.now ≡ told sections number }
 {
-    let rows = SECTIONS;
-    text_at(&rows, row_of(number, 9))
+    row(&SECTIONS, number)
 }

@@ -1,9 +1,7 @@
 // A line of a list: it lends something to the lines after it, or is a case.
 use crate::memory::{LENT, Lent, WORDS, changed, copy};
 use crate::operations::{Event, Ran, Verdict, run_event, run_load, run_write};
-use crate::text::{
-    BYTES, Count, argument, before, bytes_into, field, least, number_in, token, words_into,
-};
+use crate::text::{BYTES, argument, before, bytes_into, field, number_in, token, words_into};
 use abi_numbers::MODULE_WIDTH;
 
 fn lends(lent: Lent) -> Ran {
@@ -22,8 +20,8 @@ fn strange(lent: Lent) -> Ran {
 
 // ---- `file BYTES`, `words NUMBERS`, `module NUMBERS`, `state NUMBERS`
 
-fn lend_file(lent: Lent, listed: &[u8], file: &mut [u8]) -> Ran {
-    let Count::Is(n) = bytes_into(file, listed) else {
+fn lend_file(lent: Lent, listed: &[u8], file: &mut [u8; BYTES]) -> Ran {
+    let Some(n) = bytes_into(file, listed) else {
         return strange(lent);
     };
     lends(Lent {
@@ -33,7 +31,7 @@ fn lend_file(lent: Lent, listed: &[u8], file: &mut [u8]) -> Ran {
 }
 
 fn lend_words(lent: Lent, listed: &[u8], words: &mut [i32]) -> Ran {
-    let Count::Is(n) = words_into(words, listed) else {
+    let Some(n) = words_into(words, listed) else {
         return strange(lent);
     };
     lends(Lent {
@@ -44,7 +42,7 @@ fn lend_words(lent: Lent, listed: &[u8], words: &mut [i32]) -> Ran {
 
 // As many as a module or a state has.
 fn lend_numbers(lent: Lent, listed: &[u8], numbers: &mut [i32]) -> Ran {
-    let Count::Is(n) = words_into(numbers, listed) else {
+    let Some(n) = words_into(numbers, listed) else {
         return strange(lent);
     };
     if n == numbers.len() {
@@ -62,16 +60,6 @@ enum Operation {
     Walk(Event),
 }
 
-fn operation_of(number: usize) -> Operation {
-    match number {
-        5 => Operation::Write,
-        6 => Operation::Walk(Event::Entry),
-        7 => Operation::Walk(Event::Export),
-        8 => Operation::Walk(Event::Next),
-        _ => Operation::Walk(Event::Raise),
-    }
-}
-
 fn run_over(
     operation: Operation,
     line: &[u8],
@@ -85,10 +73,10 @@ fn run_over(
     copy(&mut tables, words);
     let mut numbers = [LENT; MODULE_WIDTH];
     copy(&mut numbers, module);
-    let Count::Is(asked) = changed(lent.words, field(line, 1), &mut tables, &mut numbers) else {
+    let Some(asked) = changed(lent.words, field(line, 1), &mut tables, &mut numbers) else {
         return Verdict::Strange;
     };
-    let n = least(asked, WORDS);
+    let n = asked.min(WORDS);
     match operation {
         Operation::Write => run_write(line, &numbers, file, &tables[..n]),
         Operation::Walk(event) => run_event(event, line, &numbers, file, &tables[..n], state),
@@ -101,42 +89,39 @@ fn run_over(
 pub fn run_line(
     line: &[u8],
     lent: Lent,
-    file: &mut [u8],
+    file: &mut [u8; BYTES],
     words: &mut [i32],
     module: &mut [i32],
     state: &mut [i32],
 ) -> Ran {
     let text = before(line, b'#');
     let word = token(text, 0);
-    if word.len() == 0 {
+    if word.is_empty() {
         return lends(lent);
     }
-    if token(field(text, 4), 0).len() != 0 {
+    if !token(field(text, 4), 0).is_empty() {
         return strange(lent);
     }
-    let n = least(lent.file, file.len());
+    let n = lent.file.min(BYTES);
     let number = number_in(
         b"file words module state load write entry export next raise",
         word,
     );
-    match number {
-        0 => lend_file(lent, argument(text), file),
-        1 => lend_words(lent, argument(text), words),
-        2 => lend_numbers(lent, argument(text), module),
-        3 => lend_numbers(lent, argument(text), state),
-        4 => run_load(text, lent, &file[..n], words, module),
-        5..=9 => Ran {
-            verdict: run_over(
-                operation_of(number),
-                text,
-                lent,
-                &file[..n],
-                words,
-                module,
-                state,
-            ),
-            lent,
-        },
-        _ => strange(lent),
+    let operation = match number {
+        Some(0) => return lend_file(lent, argument(text), file),
+        Some(1) => return lend_words(lent, argument(text), words),
+        Some(2) => return lend_numbers(lent, argument(text), module),
+        Some(3) => return lend_numbers(lent, argument(text), state),
+        Some(4) => return run_load(text, lent, &file[..n], words, module),
+        Some(5) => Operation::Write,
+        Some(6) => Operation::Walk(Event::Entry),
+        Some(7) => Operation::Walk(Event::Export),
+        Some(8) => Operation::Walk(Event::Next),
+        Some(9) => Operation::Walk(Event::Raise),
+        _ => return strange(lent),
+    };
+    Ran {
+        verdict: run_over(operation, text, lent, &file[..n], words, module, state),
+        lent,
     }
 }

@@ -6,7 +6,6 @@ mod lines;
 mod memory;
 mod operations;
 mod print;
-mod signs;
 mod text;
 
 ghost use Rattle.std.specs.Prelude.{◌≡◌, length};
@@ -15,10 +14,9 @@ use crate::lines::run_line;
 use crate::memory::{LENT, Lent, WORDS};
 use crate::operations::Verdict;
 use crate::print::{print, print_count, print_number};
-use crate::text::{BYTES, place_of};
+use crate::text::BYTES;
 use abi_numbers::{MODULE_WIDTH, STATE_WIDTH};
-use bits::magnitude;
-use files::{Input, read_file};
+use files::read_file;
 use std::env::FillError;
 use std::io;
 use std::rt::{Env, Files};
@@ -98,22 +96,10 @@ fn run_lines<P: Print>(rt: &P, text: &[u8]) -> io::Result<Tally> {
         refused: 0,
         differ: 0,
     };
-    let mut from = 0;
-    while from < text.len() {
-        let end = place_of(text, from, b'\n');
-        let ran = run_line(
-            &text[from..end],
-            lent,
-            &mut file,
-            &mut words,
-            &mut module,
-            &mut state,
-        );
-        let after = ran.lent;
-        lent = after;
-        let verdict = ran.verdict;
-        tally = with_line(rt, tally, verdict)?;
-        from = end + 1;
+    for line in text.split(|b| *b == b'\n') {
+        let ran = run_line(line, lent, &mut file, &mut words, &mut module, &mut state);
+        lent = ran.lent;
+        tally = with_line(rt, tally, ran.verdict)?;
     }
     Ok(tally)
 }
@@ -139,12 +125,12 @@ fn run_list<R: Files + Print>(rt: &R, name: &[u8]) -> io::Result<()> {
     print(rt, b"\n")?;
     let mut room = list_room();
     match read_file(rt, name, &mut room) {
-        Input::Failed(error) => {
+        Err(unread) => {
             print(rt, b"  not read, error ")?;
-            print_count(rt, magnitude(error) as usize)?;
+            print_count(rt, unread.errno().unsigned_abs() as usize)?;
             print(rt, b"\n")
         }
-        Input::Read(len) => {
+        Ok(len) => {
             if 1048576 < len {
                 return print(rt, b"  not read: it is longer than there is room for\n");
             }

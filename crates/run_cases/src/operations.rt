@@ -1,10 +1,6 @@
 // A case: an operation over what the list lends, and whether its answer and the memory that it leaves are as the line says.
-use crate::memory::{LENT, LENT_BYTE, Lent, WORDS, copy, same_words};
-use crate::signs::apart;
-use crate::text::{
-    BYTES, Count, Number, argument, bytes_into, count_of, field, least, number_of, token,
-    words_into,
-};
+use crate::memory::{LENT, LENT_BYTE, Lent, WORDS, copy};
+use crate::text::{BYTES, argument, bytes_into, count_of, field, number_of, token, words_into};
 use abi::{dis_entry, dis_export, dis_load, dis_next, dis_raise, dis_write};
 use abi_numbers::{MODULE_WIDTH, STATE_WIDTH};
 
@@ -31,26 +27,13 @@ pub enum Verdict {
 
 // ---- the answer
 
-fn is(v: i64, token: &[u8]) -> bool {
-    let Number::Is { negative, size } = number_of(token) else {
-        return false;
-    };
-    let told = apart(v);
-    if told.negative != negative {
-        return false;
-    }
-    told.size == size
-}
-
 fn same_answer(answer: &[i64; 4], field: &[u8]) -> bool {
-    let mut k = 0;
-    while k < 4 {
-        if !is(answer[k], token(field, k)) {
+    for k in 0..4 {
+        if number_of(token(field, k)) != Some(answer[k]) {
             return false;
         }
-        k += 1;
     }
-    token(field, 4).len() == 0
+    token(field, 4).is_empty()
 }
 
 fn other_answer(answer: &[i64; 4]) -> Verdict {
@@ -73,7 +56,7 @@ fn done(answer: &[i64; 4]) -> Verdict {
 // Whether as many numbers are listed as were written: none with a refusal.
 fn all_listed(answer: &[i64; 4], listed: usize, written: i64) -> bool {
     if answer[0] == 0 {
-        apart(written).size == listed
+        written.unsigned_abs() == listed as u64
     } else {
         listed == 0
     }
@@ -91,24 +74,24 @@ fn numbers_alike(
 ) -> bool {
     let mut expected = [LENT; WORDS];
     copy(&mut expected, lent);
-    let Count::Is(n) = words_into(&mut expected, listed) else {
+    let Some(n) = words_into(&mut expected, listed) else {
         return false;
     };
     if !all_listed(answer, n, written) {
         return false;
     }
-    same_words(run, &expected)
+    expected.starts_with(run)
 }
 
 fn bytes_alike(run: &[u8], listed: &[u8], answer: &[i64; 4]) -> bool {
     let mut expected = [LENT_BYTE; BYTES];
-    let Count::Is(n) = bytes_into(&mut expected, listed) else {
+    let Some(n) = bytes_into(&mut expected, listed) else {
         return false;
     };
     if !all_listed(answer, n, answer[1]) {
         return false;
     }
-    let m = least(run.len(), BYTES);
+    let m = run.len().min(BYTES);
     run == &expected[..m]
 }
 
@@ -142,13 +125,13 @@ pub fn run_load(
     words: &mut [i32],
     module: &mut [i32],
 ) -> Ran {
-    let Count::Is(asked) = count_of(token(field(line, 0), 1)) else {
+    let Some(asked) = count_of(token(field(line, 0), 1)) else {
         return Ran {
             verdict: Verdict::Strange,
             lent,
         };
     };
-    let n = least(asked, WORDS);
+    let n = asked.min(WORDS);
     let mut run = [LENT; WORDS];
     let tables = &mut run[..n];
     let mut numbers = [LENT; MODULE_WIDTH];
@@ -172,10 +155,10 @@ pub fn run_load(
 // ---- `write ROOM | CHANGES | ANSWER | BYTES`
 
 pub fn run_write(line: &[u8], module: &[i32], file: &[u8], words: &[i32]) -> Verdict {
-    let Count::Is(room) = count_of(token(field(line, 0), 1)) else {
+    let Some(room) = count_of(token(field(line, 0), 1)) else {
         return Verdict::Strange;
     };
-    let n = least(room, BYTES);
+    let n = room.min(BYTES);
     let mut run = [LENT_BYTE; BYTES];
     let out = &mut run[..n];
     let mut answer = [-1i64; 4];
@@ -207,13 +190,10 @@ fn meet_export(
     state: &mut [i32],
     answer: &mut [i64],
 ) -> bool {
-    let Count::Is(k) = count_of(number) else {
+    let Some(Ok(k)) = count_of(number).map(u32::try_from) else {
         return false;
     };
-    if 0xFFFF_FFFF < k {
-        return false;
-    }
-    dis_export(module, file, words, k as u32, state, answer);
+    dis_export(module, file, words, k, state, answer);
     true
 }
 
@@ -226,10 +206,10 @@ fn meet_raise(
     answer: &mut [i64],
 ) -> bool {
     let mut name = [0u8; BYTES];
-    let Count::Is(len) = bytes_into(&mut name, listed) else {
+    let Some(len) = bytes_into(&mut name, listed) else {
         return false;
     };
-    let n = least(len, BYTES);
+    let n = len.min(BYTES);
     dis_raise(module, file, words, &name[..n], state, answer);
     true
 }

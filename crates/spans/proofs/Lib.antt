@@ -1,1 +1,2 @@
 mod Outside
+pub mod Ones

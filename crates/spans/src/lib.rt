@@ -6,7 +6,7 @@ ghost use Rattle.format.specs.Operands.{span_of, shown};
 ghost use Rattle.format.specs.Records.{ones_of};
 ghost use Rattle.spans.specs.Part.{PartOf};
 
-use bits::{Natural, as_natural};
+use bits::as_natural;
 use format::types::Span;
 
 // Nothing, where it leaves the file.
@@ -26,10 +26,10 @@ fn part(file: &[u8], from: usize, count: usize) -> &[u8]
 pub fn name(file: &[u8], span: Span) -> &[u8]
     ensures { PartOf file.entry span result }
 {
-    let Natural::Is(from) = as_natural(span.start) else {
+    let Some(from) = as_natural(span.start) else {
         return &file[..0];
     };
-    let Natural::Is(count) = as_natural(span.len) else {
+    let Some(count) = as_natural(span.len) else {
         return &file[..0];
     };
     part(file, from, count)
@@ -41,10 +41,8 @@ fn ones_in_few(few: &[u8]) -> u16
     ensures { result ≡ ones_of few.now }
 {
     let mut ones: u16 = 0;
-    let mut i = 0;
-    while i < few.len() {
-        ones += u8::count_ones(few[i]) as u16;
-        i += 1;
+    for byte in few {
+        ones += byte.count_ones() as u16;
     }
     ones
 }
@@ -55,12 +53,10 @@ fn ones_in(map: &[u8]) -> usize
     ensures { result ≡ ones_of map.now }
 {
     let mut ones: usize = 0;
-    let mut from = 0;
-    while 8000 < map.len() - from {
-        ones += ones_in_few(&map[from..from + 8000]) as usize;
-        from += 8000;
+    for few in map.chunks(8000) {
+        ones += usize::from(ones_in_few(few));
     }
-    ones + ones_in_few(&map[from..]) as usize
+    ones
 }
 
 // The pointer count of a map: the number of ones in it.

@@ -6,6 +6,7 @@ use mathlib.Core.List.{List}
 use mathlib.Core.Option.{some}
 use native.Mathlib.Omega.{arith}
 use lib.IntN.{ℤ}
+use Rattle.std.specs.Prelude.{Result, Ok, Err}
 use Rattle.law_format.proofs.Types.{Module, Refusal}
 use Rattle.format.specs.Reading.{Reads, Step, got, refused}
 use Rattle.law_format.specs.Loops.{reached}
@@ -14,8 +15,6 @@ use Rattle.format.specs.WellFormed.{instruction_from, type_from, item_from, expo
 use Rattle.law_format.proofs.Scans.{reached-many}
 use Rattle.table_check.specs.declared.Counts.{Counts}
 use Rattle.table_check.specs.declared.Places.{Places}
-use Rattle.table_check.specs.declared.Checked.{Checked}
-use Rattle.table_check.specs.declared.Checked.TheVariants as CheckedIs
 use Rattle.table_check.specs.Laid.{Ran, PlacesAre, CheckSays}
 
 -- the same start and number of records, the same end
@@ -46,14 +45,14 @@ not_both : {P A : Type 0} {s : Step P A} {a : A} {q : P} {why : Refusal} → s �
 not_both {s = s} x y = let z : ◌≡◌ {A = ℕ} 0 1 = cc in absurd (omega arith)
 
 module _ (m : Module) (file : List ℕ) (words : List ℤ) where
-  pub check_same : (r s : Checked) → CheckSays m file words r → CheckSays m file words s → r ≡ s
-  check_same (CheckedIs.Good p) (CheckedIs.Good q) a b =
+  pub check_same : (r s : Result Places Refusal) → CheckSays m file words r → CheckSays m file words s → r ≡ s
+  check_same (Ok p) (Ok q) a b =
       let both : some p.counts ≡ some q.counts = sym a.counts ∙ b.counts in
       let counts : p.counts ≡ q.counts = cc in
-      ap CheckedIs.Good (same_places file words p q counts a.sections b.sections)
-  check_same (CheckedIs.Good p) (CheckedIs.Refused why) a b = absurd (not_both a.reads b)
-  check_same (CheckedIs.Refused why) (CheckedIs.Good q) a b = absurd (not_both b.reads a)
-  check_same (CheckedIs.Refused why) (CheckedIs.Refused other) a b =
+      ap Ok (same_places file words p q counts a.sections b.sections)
+  check_same (Ok p) (Err why) a b = absurd (not_both a.reads b)
+  check_same (Err why) (Ok q) a b = absurd (not_both b.reads a)
+  check_same (Err why) (Err other) a b =
       let both : ◌≡◌ {A = Step ℕ Records} (refused why) (refused other) = sym a ∙ b in
       let one : why ≡ other = cc in
-      ap CheckedIs.Refused one
+      ap Err one

@@ -5,40 +5,41 @@ use mathlib.Core.Path.{◌≡◌, refl, sym, ◌∙◌}
 use mathlib.Core.Bool.{true, false}
 use mathlib.Core.List.{List}
 use mathlib.Core.Option.{none, some}
-use borrow.Author.Tests.{le-leb, lt-leb, eqb-true}
+use borrow.Author.Tests.{le-leb, lt-leb}
 use lib.IntN.{ℤ, pos, negsuc}
 use lib.ListN.{length}
-use Rattle.bits.specs.Bits.{same_z}
+use Rattle.std.specs.Prelude.{Result, Ok, Err, IsErr}
+use Rattle.std.specs.Result.{IsErrAnd}
 use Rattle.format.specs.declared.module.Module.{Module}
 use Rattle.format.specs.declared.refusal.Refusal.{Refusal}
 use Rattle.format.specs.declared.refusal.Refusal.TheVariants.{TooLarge, NotWellFormed}
 use Rattle.format.specs.Reading.{got, refused, Reads, and_then, many}
-use Rattle.law_format.specs.Loops.{end_of, reached, Whole, renamed}
+use Rattle.law_format.specs.Loops.{ends, stops, end_of, reached, Whole, renamed}
 use Rattle.format.specs.Records.{Records, size_limit}
-use Rattle.format.specs.Sections.{plain_magic, signed_magic}
 use Rattle.format.specs.WellFormed.{or_bad, with_some, count_of, instruction_from, type_from, item_from, export_from, import_from, handled_from, records_from, records_of}
 use Rattle.law_format.proofs.Many.{scanned, stopped}
 use Rattle.law_format.proofs.Scans.{many-renamed, scan_renamed, reached-renamed, reached-many}
-use Rattle.law_format.proofs.Told.{told}
-use Rattle.table_rows.specs.declared.EndFrom.{EndFrom}
-use Rattle.table_rows.specs.declared.EndFrom.TheVariants as EndFromIs
-use Rattle.table_rows.specs.View.{end_from}
 use Rattle.table_check.specs.declared.Counts.{Counts}
-use Rattle.table_check.specs.declared.Front.{Front}
 use Rattle.table_check.specs.declared.Places.{Places}
-use Rattle.table_check.specs.Laid.{three_of, counts_of, outside_right, Ran, sections_from, FrontIs, PlacesAre, records_at}
+use Rattle.table_check.specs.declared.tables.Tables.{Tables}
+use Rattle.table_check.specs.Answer.{places_in}
+use Rattle.table_check.specs.Laid.{three_of, counts_of, outside_right, Ran, sections_from, PlacesAre, PlacesSays, records_at, CheckSays}
 
 -- ---- what an answer about rows or groups tells of the section's own records
 
-module _ {A B : Type 0} (name : A → B) (read : Reads ℕ A) (n p : ℕ) {r : EndFrom} (answers : end_from r ≡ end_of (many (renamed name read) n p)) where
-  by_name : {s : EndFrom} → r ≡ s → end_of (many read n p) ≡ end_from s
-  by_name q = sym (scan_renamed name read n p) ∙ told end_from answers q
+module _ {A B : Type 0} (name : A → B) (read : Reads ℕ A) (n p : ℕ) where
+  pub all_ran : {q : ℕ} → ends q ≡ end_of (many (renamed name read) n p) → Ran read n p q
+  all_ran e = scanned read n p (sym (scan_renamed name read n p) ∙ sym e)
 
-  pub all_ran : {q : ℕ} → r ≡ EndFromIs.Done q → Ran read n p q
-  all_ran q = scanned read n p (by_name q)
+  pub one_bad : {why : Refusal} → stops why ≡ end_of (many (renamed name read) n p) → many read n p ≡ refused why
+  one_bad e = stopped (many read n p) (sym (scan_renamed name read n p) ∙ sym e)
 
-  pub one_bad : {place : ℕ} → r ≡ EndFromIs.Bad place → many read n p ≡ refused (NotWellFormed place)
-  one_bad q = stopped (many read n p) (by_name q)
+-- ---- a refusal that is handed on
+
+pub handed_on : (file : List ℕ) (words : List ℤ) (n : Counts) (r : Result Places Refusal) {why : Refusal} → IsErr r × IsErrAnd r (λ y. y ≡ why)
+    → ((m : Module) → sections_from file words m n 0 ≡ refused why) → PlacesSays file words n r
+handed_on file words n (Ok p) e h = absurd e.1
+handed_on file words n (Err y) e h = λ m. rw e.1 (h m)
 
 -- ---- what a later pass over the same rows or groups knows: each can be read, and where they end
 
@@ -65,31 +66,26 @@ module _ (file : List ℕ) (words : List ℤ) (n : Counts) (m : Module) {why : R
   unfolding sections_from
   items_bad code types e = rw (code, types, e)
 
-  module _ {f : Front} (front : FrontIs file words n f) where
-    pub exports_bad : many (export_from file words) n.exports f.at_exports ≡ refused why → sections_from file words m n 0 ≡ refused why
+  module _ {p q r : ℕ} (code : Ran (instruction_from words) n.code 0 p) (types : Ran (type_from file words) n.types p q) (items : Ran (item_from file words) n.items q r) where
+    pub exports_bad : many (export_from file words) n.exports r ≡ refused why → sections_from file words m n 0 ≡ refused why
     unfolding sections_from
-    exports_bad e = rw (front.code, front.types, front.items, e)
+    exports_bad e = rw (code, types, items, e)
 
-    pub imports_bad : {p : ℕ} → Ran (export_from file words) n.exports f.at_exports p
-        → many (import_from file words) n.imports p ≡ refused why → sections_from file words m n 0 ≡ refused why
+    pub imports_bad : {s : ℕ} → Ran (export_from file words) n.exports r s
+        → many (import_from file words) n.imports s ≡ refused why → sections_from file words m n 0 ≡ refused why
     unfolding sections_from
-    imports_bad exports e = rw (front.code, front.types, front.items, exports, e)
+    imports_bad exports e = rw (code, types, items, exports, e)
 
-    pub handlers_bad : {p q : ℕ} → Ran (export_from file words) n.exports f.at_exports p → Ran (import_from file words) n.imports p q
-        → many (handled_from file words) n.handlers q ≡ refused why → sections_from file words m n 0 ≡ refused why
+    pub handlers_bad : {s t : ℕ} → Ran (export_from file words) n.exports r s → Ran (import_from file words) n.imports s t
+        → many (handled_from file words) n.handlers t ≡ refused why → sections_from file words m n 0 ≡ refused why
     unfolding sections_from
-    handlers_bad exports imports e = rw (front.code, front.types, front.items, exports, imports, e)
+    handlers_bad exports imports e = rw (code, types, items, exports, imports, e)
 
 pub sections_got : (file : List ℕ) (words : List ℤ) (m : Module) (p : Places) → PlacesAre file words p → sections_from file words m p.counts 0 ≡ got (records_at file words m p) p.end
 unfolding sections_from
 sections_got file words m p s = rw (s.code, s.types, s.items, s.exports, s.imports, s.handlers)
 
 -- ---- what lies outside the words
-
--- the two magics differ
-pub plain_only : (z : ℤ) → same_z z plain_magic ≡ true → same_z z signed_magic ≡ false
-plain_only (pos n) e = rw (eqb-true n _ e)
-plain_only (negsuc n) e = refl
 
 -- six counts one by one, and all at once
 counts_by : (a b c d e f : ℤ) (k : Counts → Reads ℕ Records)
@@ -126,3 +122,21 @@ module _ (m : Module) (file : List ℕ) (words : List ℤ) where
 
       pub by_sections : {n : Counts} → counts_of m ≡ some n → records_of m file words ≡ sections_from file words m n 0
       by_sections e = by_counts ∙ rw e
+
+-- ---- the whole by its sections
+
+module _ (m : Module) (file : List ℕ) (words : List ℤ) where
+  pub whole_handed_on : (r : Result Tables Refusal) {why : Refusal} → IsErr r × IsErrAnd r (λ y. y ≡ why) → records_of m file words ≡ refused why → CheckSays m file words (places_in r)
+  whole_handed_on (Ok t) e h = absurd e.1
+  whole_handed_on (Err y) e h = rw e.1 h
+
+  pub whole_says : {n : Counts} (r : Result Places Refusal) → length file ≤ size_limit → outside_right file m ≡ true → counts_of m ≡ some n → PlacesSays file words n r → CheckSays m file words r
+  whole_says (Ok p) small outside counts all =
+      let same : counts_of m ≡ some p.counts = rw all.0 counts in
+      record {
+        small = small;
+        counts = same;
+        sections = all.1;
+        reads = by_sections m file words small outside same ∙ sections_got file words m p all.1;
+      }
+  whole_says (Err why) small outside counts all = by_sections m file words small outside counts ∙ all m

@@ -1,25 +1,15 @@
 -- What the check of the whole says: where each section stands and what its words say, or the refusal of the whole.
-use Rattle.std.specs.Prelude.{ℕ, ◌≤◌, ◌≡◌, Bool, ◌&&◌, List, ℤ, length}
-use Rattle.std.proofs.Math.Option.{Option, none, some}
+use Rattle.std.specs.Prelude.{ℕ, ◌≤◌, ◌≡◌, Bool, ◌&&◌, List, ℤ, length, Result, Ok, Err}
+use Rattle.std.proofs.Math.Option.{Option, some}
 use Rattle.format.specs.declared.module.Module.{Module}
-use Rattle.format.specs.declared.refusal.Refusal.TheVariants.{NotWellFormed}
+use Rattle.format.specs.declared.module.Sizes.{Sizes}
+use Rattle.format.specs.declared.refusal.Refusal.{Refusal}
 use Rattle.format.specs.Reading.{Reads, got, refused, ◌>>=◌, give, many}
 use Rattle.law_format.specs.Loops.{leading}
 use Rattle.format.specs.Records.{Records, size_limit}
 use Rattle.format.specs.WellFormed.{with_some, numbered, is_name, magic_right, instruction_from, type_from, item_from, export_from, import_from, handled_from, records_of}
 use Rattle.table_check.specs.declared.Counts.{Counts}
-use Rattle.table_check.specs.declared.ThreeFrom.{ThreeFrom}
-use Rattle.table_check.specs.declared.ThreeFrom.TheVariants as ThreeFromIs
-use Rattle.table_check.specs.declared.CountsFrom.{CountsFrom}
-use Rattle.table_check.specs.declared.CountsFrom.TheVariants as CountsFromIs
 use Rattle.table_check.specs.declared.Places.{Places}
-use Rattle.table_check.specs.declared.Front.{Front}
-use Rattle.table_check.specs.declared.FrontFrom.{FrontFrom}
-use Rattle.table_check.specs.declared.FrontFrom.TheVariants as FrontFromIs
-use Rattle.table_check.specs.declared.PlacesFrom.{PlacesFrom}
-use Rattle.table_check.specs.declared.PlacesFrom.TheVariants as PlacesFromIs
-use Rattle.table_check.specs.declared.Checked.{Checked}
-use Rattle.table_check.specs.declared.Checked.TheVariants as CheckedIs
 
 -- ---- the counts of a module
 
@@ -30,10 +20,6 @@ three_of a b c =
     with_some (numbered some c) λ z.
     some (x, y, z)
 
-abbrev pub some_three : ThreeFrom → Option (ℕ × ℕ × ℕ)
-some_three (ThreeFromIs.Got x y z) = some (x, y, z)
-some_three ThreeFromIs.Bad = none
-
 -- where none is negative
 abbrev pub counts_of : Module → Option Counts
 counts_of m =
@@ -41,9 +27,8 @@ counts_of m =
     with_some (three_of m.items m.imports m.handlers) λ b.
     some (record { code = a.0; types = a.1; items = b.0; exports = a.2; imports = b.1; handlers = b.2 })
 
-abbrev pub some_counts : CountsFrom → Option Counts
-some_counts (CountsFromIs.Got n) = some n
-some_counts CountsFromIs.Bad = none
+abbrev pub sizes_of : Counts → Sizes
+sizes_of n = record { code = n.code; types = n.types }
 
 abbrev pub outside_right : List ℕ → Module → Bool
 outside_right file m = magic_right file m.header && is_name file m.name
@@ -65,20 +50,6 @@ module _ (file : List ℕ) (words : List ℤ) where
     handlers ← many (handled_from file words) n.handlers
     give (record { header = m.header; code = code; types = types; items = items; name = m.name; exports = exports; imports = imports; handlers = handlers })
 
-  module _ (n : Counts) where
-    -- a module of such counts is refused at a word, whatever else it says
-    abbrev pub RefusedAt : ℕ → Type 0
-    RefusedAt place = (m : Module) → sections_from m n 0 ≡ refused (NotWellFormed place)
-
-    pub record FrontIs (f : Front) : Type 0 where
-      pub code : Ran (instruction_from words) n.code 0 f.at_types
-      pub types : Ran (type_from file words) n.types f.at_types f.at_items
-      pub items : Ran (item_from file words) n.items f.at_items f.at_exports
-
-    abbrev pub FrontSays : FrontFrom → Type 0
-    FrontSays (FrontFromIs.Got f) = FrontIs f
-    FrontSays (FrontFromIs.Bad place) = RefusedAt place
-
   pub record PlacesAre (p : Places) : Type 0 where
     pub code : Ran (instruction_from words) p.counts.code 0 p.at_types
     pub types : Ran (type_from file words) p.counts.types p.at_types p.at_items
@@ -87,9 +58,10 @@ module _ (file : List ℕ) (words : List ℤ) where
     pub imports : Ran (import_from file words) p.counts.imports p.at_imports p.at_handlers
     pub handlers : Ran (handled_from file words) p.counts.handlers p.at_handlers p.end
 
-  abbrev pub PlacesSays : Counts → PlacesFrom → Type 0
-  PlacesSays n (PlacesFromIs.Got p) = (p.counts ≡ n) × PlacesAre p
-  PlacesSays n (PlacesFromIs.Bad place) = RefusedAt n place
+  -- or a module of such counts is refused, whatever else it says
+  abbrev pub PlacesSays : Counts → Result Places Refusal → Type 0
+  PlacesSays n (Ok p) = (p.counts ≡ n) × PlacesAre p
+  PlacesSays n (Err why) = (m : Module) → sections_from m n 0 ≡ refused why
 
   -- ---- the whole
 
@@ -112,6 +84,6 @@ pub record GoodAt (m : Module) (file : List ℕ) (words : List ℤ) (p : Places)
   pub sections : PlacesAre file words p
   pub reads : records_of m file words ≡ got (records_at file words m p) p.end
 
-abbrev pub CheckSays : Module → List ℕ → List ℤ → Checked → Type 0
-CheckSays m file words (CheckedIs.Good p) = GoodAt m file words p
-CheckSays m file words (CheckedIs.Refused why) = records_of m file words ≡ refused why
+abbrev pub CheckSays : Module → List ℕ → List ℤ → Result Places Refusal → Type 0
+CheckSays m file words (Ok p) = GoodAt m file words p
+CheckSays m file words (Err why) = records_of m file words ≡ refused why

@@ -1,7 +1,7 @@
 -- A data item of the words: what its kind fixes leaves nothing to choose, so that it is taken as its words stand.
 -- Assumes nothing.
-use Prim.Native.Nat.{ℕ, zero, suc, ◌+◌, ◌*◌, ◌^◌, ◌≤◌, ◌<◌}
-use mathlib.Core.Path.{◌≡◌, refl, sym, ap, ◌∙◌}
+use Prim.Native.Nat.{ℕ, zero, suc, ◌+◌, ◌*◌, ◌≤◌}
+use mathlib.Core.Path.{◌≡◌, refl, sym, ◌∙◌}
 use mathlib.Core.Bool.{Bool, true, false, ◌&&◌}
 use mathlib.Core.List.{List}
 use mathlib.Core.Option.{Option, none, some}
@@ -10,32 +10,26 @@ use borrow.Author.Tests.{eq-eqb, eqb-true}
 use lib.Dec.{eqb}
 use lib.IntN.{ℤ, pos, negsuc}
 use lib.ListN.{length}
-use lib.Signed.{mag}
-use mir.Syntax.{w32}
-use mir.Val.{to_z, of_z}
 use Rattle.bits.specs.Bits.{same_z}
 use Rattle.format.specs.declared.module.DataKind.{DataKind}
 use Rattle.format.specs.declared.module.DataItem.{DataItem}
-use Rattle.format.specs.declared.module.MaybeDataKind.{MaybeDataKind}
 use Rattle.format.specs.declared.module.Shape.{Shape}
 use Rattle.format.specs.declared.module.Shape.TheVariants as S
 use Rattle.format.specs.Operands.{span_of}
 use Rattle.format.specs.Reading.{got}
 use Rattle.law_format.specs.Loops.{Whole}
 use Rattle.format.specs.Records.{kinds, kind_of, shape_of}
-use Rattle.values.specs.View.{maybe_kind}
 use Rattle.format.specs.Words.{item_width}
 use Rattle.format.specs.Sections.{item_of}
 use Rattle.format.specs.WellFormed.{is_span, same_span, with_some, numbered, only_if, word, record_of, item_from}
 use Rattle.format.proofs.Ranges.{none_past}
 use Rattle.law_format.proofs.Froms.{from_got, only_some}
-use Rattle.law_format.proofs.Told.{told}
 use Rattle.law_format.proofs.Truth.{and_both}
 use Rattle.law_format.proofs.Whole.{whole_got}
 use Rattle.table_pieces.specs.Bytes.{byte_of}
-use Rattle.table_pieces.proofs.Facts.{byte_says, byte_kept}
+use Rattle.table_pieces.proofs.Facts.{byte_says}
 use Rattle.table_pieces.proofs.Tested.{Recorded, read_room}
-use Rattle.table_data.specs.Tests.{item_there, kind_or1, kind_there, shape_right, numbers_right, item_right}
+use Rattle.table_data.specs.Tests.{item_there, kind_or1, kind_there, shape_right, numbers_right, item_right, item_said}
 
 -- ---- the kind as a byte
 
@@ -43,12 +37,8 @@ no_kind : (n : ℕ) → 255 ≤ n → kind_of n ≡ none
 no_kind zero h = absurd (omega arith)
 no_kind (suc n) h = sym (none_past kinds n (omega arith))
 
-kind_says : (v : ℤ) → numbered kind_of v ≡ kind_of (byte_of v)
+pub kind_says : (v : ℤ) → numbered kind_of v ≡ kind_of (byte_of v)
 kind_says v = byte_says kind_of no_kind v
-
--- as the code reads it
-pub kind_read : (v : ℤ) {b : ℕ} {r s : MaybeDataKind} → mag v < 2 ^ 31 → b ≡ byte_of (to_z w32 (of_z w32 v)) → maybe_kind r ≡ kind_of b → r ≡ s → numbered kind_of v ≡ maybe_kind s
-kind_read v small is said q = kind_says v ∙ ap kind_of (byte_kept v small is) ∙ told maybe_kind said q
 
 -- ---- what its kind fixes
 
@@ -118,12 +108,6 @@ module _ (file : List ℕ) (kind : DataKind) where
   by_words (pos offset) (pos n) (negsuc start) len = refl
   by_words (pos offset) (negsuc n) start len = refl
   by_words (negsuc offset) n start len = refl
-
--- what five words say: the kind, and the item as its words stand
-abbrev pub item_said : List ℕ → List ℤ → ℕ → Option DataItem
-item_said file words w =
-    with_some (numbered kind_of (word words w)) λ kind.
-    only_if (item_right file (item_there words kind w)) (item_there words kind w)
 
 module _ (file : List ℕ) (words : List ℤ) where
   kind_by : (w : ℕ) (o : Option DataKind) → with_some o (λ kind. by_shape file kind (word words (w + 1)) (word words (w + 2)) (word words (w + 3)) (word words (w + 4)))

@@ -7,7 +7,7 @@ use Rattle.format.specs.declared.module.DataItem.{DataItem}
 use Rattle.format.specs.declared.module.Shape.{Shape}
 use Rattle.format.specs.declared.module.Shape.TheVariants as S
 use Rattle.format.specs.Records.{kind_of, shape_of}
-use Rattle.format.specs.WellFormed.{is_span, numbered, word, span}
+use Rattle.format.specs.WellFormed.{is_span, with_some, only_if, numbered, word, span}
 
 -- an item of a kind, as its words stand
 abbrev pub item_there : List ℤ → DataKind → ℕ → DataItem
@@ -42,3 +42,9 @@ value_right d = numbers_right (shape_of d.kind) d.offset d.count d.value.start d
 -- and the value lies inside the file
 abbrev pub item_right : List ℕ → DataItem → Bool
 item_right file d = value_right d && is_span file d.value
+
+-- what five words say: the kind, and the item as its words stand
+abbrev pub item_said : List ℕ → List ℤ → ℕ → Option DataItem
+item_said file words w =
+    with_some (numbered kind_of (word words w)) λ kind.
+    only_if (item_right file (item_there words kind w)) (item_there words kind w)

@@ -5,20 +5,15 @@ ghost use Rattle.std.specs.Prelude.{◌≡◌, ◌+◌, ◌≤◌, ◌<◌, ◌^
 ghost use Rattle.format.specs.Records.{shape_of};
 ghost use Rattle.format.specs.Words.{item_width};
 ghost use Rattle.format.specs.WellFormed.{item_from};
-ghost use Rattle.table_data.specs.Tests.{item_there, kind_there, shape_right, value_right, item_right};
-ghost use Rattle.table_data.specs.View.{item_step};
+ghost use Rattle.table_data.specs.Tests.{item_there, kind_there, shape_right, value_right, item_right, item_said};
+ghost use Rattle.format.specs.Views.{maybe};
+ghost use Rattle.law_format.specs.Views.{record_at};
 
-use bits::{Natural, as_natural};
-use format::module::{DataItem, DataKind, ITEM_WIDTH, MaybeDataKind, Shape};
+use bits::as_natural;
+use format::module::{DataItem, DataKind, ITEM_WIDTH, Shape};
 use format::types::Span;
 use table_pieces::{byte_of, has_room, is_span};
-use values::module::{data_kind, shape_of};
-
-#[derive(Clone, Copy)]
-pub enum ItemFrom {
-    Got(DataItem),
-    Bad,
-}
+use values::module::shape_of;
 
 // Of a kind, as the words stand.
 fn item_of(words: &[i32], kind: DataKind, w: usize) -> DataItem
@@ -37,30 +32,20 @@ fn item_of(words: &[i32], kind: DataKind, w: usize) -> DataItem
 }
 
 // As the words stand, of which the first is known to say a kind.
+#[tactic(auto, using(crate::proofs::Items::kind_says))]
 pub fn item_there(words: &[i32], w: usize) -> DataItem
     requires { w + item_width ≤ length words.now }
     ensures { result ≡ item_there words.now (kind_there words.now w) w }
 {
-    match data_kind(byte_of(words[w])) {
-        MaybeDataKind::Is(kind) => item_of(words, kind, w),
-        MaybeDataKind::Unknown => item_of(words, DataKind::Bytes, w),
-    }
+    let kind = DataKind::try_from(byte_of(words[w])).unwrap_or(DataKind::Bytes);
+    item_of(words, kind, w)
 }
 
 // Kind 7 has offset 0, count 1 and an empty value at place 0.
 fn nothing_right(offset: usize, n: usize, start: usize, len: usize) -> bool
     ensures { result ≡ shape_right Shape.Nothing offset n start len }
 {
-    if 0 != offset {
-        return false;
-    }
-    if 1 != n {
-        return false;
-    }
-    if 0 != start {
-        return false;
-    }
-    0 == len
+    offset == 0 && n == 1 && start == 0 && len == 0
 }
 
 // What the kind fixes of offset, count n, and the value's start and length.
@@ -79,44 +64,44 @@ fn shape_right(kind: DataKind, offset: usize, n: usize, start: usize, len: usize
 fn value_right(d: DataItem) -> bool
     ensures { result ≡ value_right d }
 {
-    let Natural::Is(offset) = as_natural(d.offset) else {
+    let Some(offset) = as_natural(d.offset) else {
         return false;
     };
-    let Natural::Is(count) = as_natural(d.count) else {
+    let Some(count) = as_natural(d.count) else {
         return false;
     };
-    let Natural::Is(start) = as_natural(d.value.start) else {
+    let Some(start) = as_natural(d.value.start) else {
         return false;
     };
-    let Natural::Is(len) = as_natural(d.value.len) else {
+    let Some(len) = as_natural(d.value.len) else {
         return false;
     };
-    let kind = d.kind;
-    shape_right(kind, offset, count, start, len)
+    shape_right(d.kind, offset, count, start, len)
 }
 
 fn item_right(file: &[u8], d: DataItem) -> bool
     ensures { result ≡ item_right file.now d }
 {
-    if value_right(d) {
-        return is_span(file, d.value);
-    }
-    false
+    value_right(d) && is_span(file, d.value)
 }
 
-pub fn item_from(file: &[u8], words: &[i32], w: usize) -> ItemFrom
-    ensures { item_step w result ≡ item_from file.now words.now w }
+// What the five words say.
+#[tactic(auto, using(crate::proofs::Items::kind_says))]
+fn item_said(file: &[u8], words: &[i32], w: usize) -> Option<DataItem>
+    requires { w + item_width ≤ length words.now }
+    ensures { maybe result ≡ item_said file.now words.now w }
+{
+    let kind = DataKind::try_from(byte_of(words[w])).ok()?;
+    let item = item_of(words, kind, w);
+    item_right(file, item).then_some(item)
+}
+
+#[tactic(auto, using(crate::proofs::Items::item_says))]
+pub fn item_from(file: &[u8], words: &[i32], w: usize) -> Option<DataItem>
+    ensures { record_at item_width w result ≡ item_from file.now words.now w }
 {
     if !has_room(words, ITEM_WIDTH, w) {
-        return ItemFrom::Bad;
+        return None;
     }
-    let MaybeDataKind::Is(kind) = data_kind(byte_of(words[w])) else {
-        return ItemFrom::Bad;
-    };
-    let item = item_of(words, kind, w);
-    if item_right(file, item) {
-        ItemFrom::Got(item)
-    } else {
-        ItemFrom::Bad
-    }
+    item_said(file, words, w)
 }

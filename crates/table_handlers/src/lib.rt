@@ -1,28 +1,17 @@
 // 8: handlers of the table words without their cases, cases, and a handler's last case.
+// The readers are alike in two calls only, `has_room` and `then_some`: a trait of records would be longer than they are.
 #![tactic(auto)]
 
 ghost use Rattle.std.specs.Prelude.{◌≡◌, ◌+◌, ◌≤◌, length};
 ghost use Rattle.format.specs.Words.{handler_width, case_width};
 ghost use Rattle.format.specs.WellFormed.{handler_there, handler_from, case_there, case_from, last_from};
 ghost use Rattle.table_handlers.specs.Tests.{case_count_right};
-ghost use Rattle.table_handlers.specs.View.{handler_step, case_step};
+ghost use Rattle.law_format.specs.Views.{record_at};
 
-use bits::{Natural, as_natural};
+use bits::as_natural;
 use format::module::{CASE_WIDTH, ExceptionCase, HANDLER_WIDTH, Handler};
 use format::types::Span;
-use table_pieces::{has_room, is_name, same_span};
-
-#[derive(Clone, Copy)]
-pub enum HandlerFrom {
-    Got(Handler),
-    Bad,
-}
-
-#[derive(Clone, Copy)]
-pub enum CaseFrom {
-    Got(ExceptionCase),
-    Bad,
-}
+use table_pieces::{has_room, is_name};
 
 // As the words stand.
 pub fn handler_there(words: &[i32], w: usize) -> Handler
@@ -42,27 +31,18 @@ pub fn handler_there(words: &[i32], w: usize) -> Handler
 fn case_count_right(h: Handler) -> bool
     ensures { result ≡ case_count_right h.cases }
 {
-    let Natural::Is(n) = as_natural(h.cases) else {
-        return false;
-    };
-    if n < 1 {
-        return false;
-    }
-    n <= 65536
+    as_natural(h.cases).is_some_and(|n| (1..=65536).contains(&n))
 }
 
-pub fn handler_from(words: &[i32], w: usize) -> HandlerFrom
-    ensures { handler_step w result ≡ handler_from words.now w }
+#[tactic(auto, using(crate::proofs::Handlers::handler_says))]
+pub fn handler_from(words: &[i32], w: usize) -> Option<Handler>
+    ensures { record_at handler_width w result ≡ handler_from words.now w }
 {
     if !has_room(words, HANDLER_WIDTH, w) {
-        return HandlerFrom::Bad;
+        return None;
     }
     let handler = handler_there(words, w);
-    if case_count_right(handler) {
-        HandlerFrom::Got(handler)
-    } else {
-        HandlerFrom::Bad
-    }
+    case_count_right(handler).then_some(handler)
 }
 
 // As the words stand.
@@ -79,31 +59,25 @@ pub fn case_there(words: &[i32], w: usize) -> ExceptionCase
     }
 }
 
-pub fn case_from(file: &[u8], words: &[i32], w: usize) -> CaseFrom
-    ensures { case_step w result ≡ case_from file.now words.now w }
+#[tactic(auto, unfolding(format::specs::WellFormed::case_from))]
+pub fn case_from(file: &[u8], words: &[i32], w: usize) -> Option<ExceptionCase>
+    ensures { record_at case_width w result ≡ case_from file.now words.now w }
 {
     if !has_room(words, CASE_WIDTH, w) {
-        return CaseFrom::Bad;
+        return None;
     }
     let case = case_there(words, w);
-    if is_name(file, case.name) {
-        CaseFrom::Got(case)
-    } else {
-        CaseFrom::Bad
-    }
+    is_name(file, case.name).then_some(case)
 }
 
 // The last case has an empty name at place 0.
-pub fn last_from(words: &[i32], w: usize) -> CaseFrom
-    ensures { case_step w result ≡ last_from words.now w }
+#[tactic(auto, unfolding(format::specs::WellFormed::last_from))]
+pub fn last_from(words: &[i32], w: usize) -> Option<ExceptionCase>
+    ensures { record_at case_width w result ≡ last_from words.now w }
 {
     if !has_room(words, CASE_WIDTH, w) {
-        return CaseFrom::Bad;
+        return None;
     }
     let last = case_there(words, w);
-    if same_span(last.name, Span { start: 0, len: 0 }) {
-        CaseFrom::Got(last)
-    } else {
-        CaseFrom::Bad
-    }
+    (last.name == Span { start: 0, len: 0 }).then_some(last)
 }

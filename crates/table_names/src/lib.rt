@@ -1,33 +1,16 @@
 // 6 and 7: exports of the table words, the functions of an import module, and how many these are.
+// The readers are alike in two calls only, `has_room` and `then_some`: a trait of records would be longer than they are.
 #![tactic(auto)]
 
 ghost use Rattle.std.specs.Prelude.{◌≡◌, ◌+◌, ◌≤◌, length};
-ghost use Rattle.format.specs.Words.{export_width, function_width};
+ghost use Rattle.format.specs.Words.{export_width, function_width, import_width};
 ghost use Rattle.format.specs.WellFormed.{export_there, export_from, function_there, function_from, function_count_from};
-ghost use Rattle.table_names.specs.View.{export_step, function_step, function_count_step};
+ghost use Rattle.law_format.specs.Views.{record_at};
 
-use bits::{Natural, as_natural};
+use bits::as_natural;
 use format::module::{EXPORT_WIDTH, ExportEntry, FUNCTION_WIDTH, IMPORT_WIDTH, ImportEntry};
 use format::types::Span;
 use table_pieces::{has_room, is_name};
-
-#[derive(Clone, Copy)]
-pub enum ExportFrom {
-    Got(ExportEntry),
-    Bad,
-}
-
-#[derive(Clone, Copy)]
-pub enum FunctionFrom {
-    Got(ImportEntry),
-    Bad,
-}
-
-#[derive(Clone, Copy)]
-pub enum FunctionCountFrom {
-    Got(usize),
-    Bad,
-}
 
 // As the words stand.
 pub fn export_there(words: &[i32], w: usize) -> ExportEntry
@@ -45,18 +28,15 @@ pub fn export_there(words: &[i32], w: usize) -> ExportEntry
     }
 }
 
-pub fn export_from(file: &[u8], words: &[i32], w: usize) -> ExportFrom
-    ensures { export_step w result ≡ export_from file.now words.now w }
+#[tactic(auto, unfolding(format::specs::WellFormed::export_from))]
+pub fn export_from(file: &[u8], words: &[i32], w: usize) -> Option<ExportEntry>
+    ensures { record_at export_width w result ≡ export_from file.now words.now w }
 {
     if !has_room(words, EXPORT_WIDTH, w) {
-        return ExportFrom::Bad;
+        return None;
     }
     let export = export_there(words, w);
-    if is_name(file, export.name) {
-        ExportFrom::Got(export)
-    } else {
-        ExportFrom::Bad
-    }
+    is_name(file, export.name).then_some(export)
 }
 
 // As the words stand.
@@ -73,28 +53,23 @@ pub fn function_there(words: &[i32], w: usize) -> ImportEntry
     }
 }
 
-pub fn function_from(file: &[u8], words: &[i32], w: usize) -> FunctionFrom
-    ensures { function_step w result ≡ function_from file.now words.now w }
+#[tactic(auto, unfolding(format::specs::WellFormed::function_from))]
+pub fn function_from(file: &[u8], words: &[i32], w: usize) -> Option<ImportEntry>
+    ensures { record_at function_width w result ≡ function_from file.now words.now w }
 {
     if !has_room(words, FUNCTION_WIDTH, w) {
-        return FunctionFrom::Bad;
+        return None;
     }
     let function = function_there(words, w);
-    if is_name(file, function.name) {
-        FunctionFrom::Got(function)
-    } else {
-        FunctionFrom::Bad
-    }
+    is_name(file, function.name).then_some(function)
 }
 
-pub fn function_count_from(words: &[i32], w: usize) -> FunctionCountFrom
-    ensures { function_count_step w result ≡ function_count_from words.now w }
+#[tactic(auto, unfolding(format::specs::WellFormed::function_count_from))]
+pub fn function_count_from(words: &[i32], w: usize) -> Option<usize>
+    ensures { record_at import_width w result ≡ function_count_from words.now w }
 {
     if !has_room(words, IMPORT_WIDTH, w) {
-        return FunctionCountFrom::Bad;
+        return None;
     }
-    let Natural::Is(count) = as_natural(words[w]) else {
-        return FunctionCountFrom::Bad;
-    };
-    FunctionCountFrom::Got(count)
+    as_natural(words[w])
 }

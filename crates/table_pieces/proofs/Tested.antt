@@ -2,32 +2,21 @@
 -- Assumes nothing.
 use Prim.Native.Nat.{ℕ, zero, suc, ◌+◌, ◌-◌, ◌*◌, ◌≤◌, ◌<◌, min}
 use mathlib.Core.Path.{◌≡◌, refl, sym, ap, ◌∙◌}
-use mathlib.Core.Bool.{Bool, true, false}
+use mathlib.Core.Bool.{Bool, true}
 use mathlib.Core.List.{List}
-use mathlib.Core.Option.{Option, none, some}
+use mathlib.Core.Option.{Option, some}
 use native.Mathlib.Nat.{add-zero, mul-zero, mul-suc}
 use native.Mathlib.Numerals.{sub-one}
 use native.Mathlib.Omega.{arith}
-use borrow.Author.Tests.{le-leb, leb-true, leb-false}
-use lib.Dec.{leb}
 use lib.IntN.{ℤ}
 use lib.ListN.{length, get_elem?}
-use Rattle.format.specs.declared.refusal.Refusal.TheVariants.{NotWellFormed}
-use Rattle.format.specs.Reading.{Reads, got, refused, many}
+use Rattle.format.specs.Reading.{Reads, got, many}
 use Rattle.law_format.specs.Loops.{leading, Whole}
 use Rattle.format.specs.Records.{word_limit}
-use Rattle.format.specs.WellFormed.{or_bad, only_if, record_of}
-use Rattle.law_format.proofs.Froms.{from_there_lem, from_outside, from_bad, Inside, from_got, only_if_lem, only_not, only_some}
+use Rattle.format.specs.WellFormed.{only_if, record_of}
+use Rattle.law_format.proofs.Froms.{from_there_lem, Inside, from_got, only_some}
 use Rattle.law_format.proofs.Many.{leading_turn}
 use Rattle.law_format.proofs.Whole.{whole_got, whole_first, whole_next}
-
--- ---- what stands there, taken where it passes its test
-
-pub only_passes : {A : Type 0} {x : A} (ok : A → Bool) {a : A} → a ≡ x → {t : Bool} → t ≡ ok a → t ≡ true → some a ≡ only_if (ok x) x
-only_passes ok {a} is test e = rw (← is) (sym (only_if_lem a (sym test ∙ e)))
-
-pub only_fails : {A : Type 0} {x : A} (ok : A → Bool) {a : A} → a ≡ x → {t : Bool} → t ≡ ok a → t ≡ false → none ≡ only_if (ok x) x
-only_fails ok {a} is test e = rw (← is) (sym (only_not a (sym test ∙ e)))
 
 -- ---- a reader of records of so many words
 
@@ -37,25 +26,12 @@ pub record Recorded {A : Type 0} (words : List ℤ) (from : Reads ℕ A) : Type 
   pub says : (w : ℕ) → from w ≡ record_of words width read w
 
 module _ {A : Type 0} {words : List ℤ} {from : Reads ℕ A} (r : Recorded words from) (w : ℕ) where
-  module _ {t : Bool} (room : t ≡ leb (w + r.width) (min (length words) word_limit)) where
-    pub fits : t ≡ true → w + r.width ≤ min (length words) word_limit
-    fits e = leb-true _ _ (sym room ∙ e)
-
-    pub no_room : t ≡ false → refused (NotWellFormed w) ≡ from w
-    no_room e = sym (r.says w ∙ from_outside words r.width r.read w (leb-false _ _ (sym room ∙ e)))
-
   pub read_room : {a : A} {q : ℕ} → from w ≡ got a q → w + r.width ≤ length words
   read_room e = omega (arith, (from_got words r.width r.read w (sym (r.says w) ∙ e)).inside)
 
   module _ (inside : w + r.width ≤ min (length words) word_limit) where
-    pub is_said : {o : Option A} → o ≡ r.read w → or_bad w (w + r.width) o ≡ from w
-    is_said e = sym (r.says w ∙ rw (le-leb (w + r.width) (min (length words) word_limit) inside, ← e))
-
-    pub is_read : {a : A} → r.read w ≡ some a → got a (w + r.width) ≡ from w
+    is_read : {a : A} → r.read w ≡ some a → got a (w + r.width) ≡ from w
     is_read e = sym (r.says w ∙ from_there_lem words r.width r.read w inside e)
-
-    pub is_bad : r.read w ≡ none → refused (NotWellFormed w) ≡ from w
-    is_bad e = sym (r.says w ∙ from_bad words r.width r.read w inside e)
 
 -- ---- one that takes the record as it stands where it passes a test
 
@@ -69,13 +45,6 @@ abbrev pub recorded : {A : Type 0} {words : List ℤ} {from : Reads ℕ A} → T
 recorded r = record { width = r.width; read = λ v. only_if (r.ok (r.there v)) (r.there v); says = r.says }
 
 module _ {A : Type 0} {words : List ℤ} {from : Reads ℕ A} (r : Tested words from) (w : ℕ) where
-  module _ (inside : w + r.width ≤ min (length words) word_limit) {a : A} (is : a ≡ r.there w) {t : Bool} (test : t ≡ r.ok a) where
-    pub passes : t ≡ true → got a (w + r.width) ≡ from w
-    passes e = is_read (recorded r) w inside (sym (only_passes r.ok is test e))
-
-    pub fails : t ≡ false → refused (NotWellFormed w) ≡ from w
-    fails e = is_bad (recorded r) w inside (sym (only_fails r.ok is test e))
-
   -- what was read stands there, inside the words, and passed
   pub record There (a : A) (q : ℕ) : Type 0 where
     pub is : a ≡ r.there w

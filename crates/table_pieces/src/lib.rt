@@ -2,13 +2,11 @@
 #![tactic(auto)]
 
 ghost use Rattle.std.specs.Prelude.{◌≡◌, ◌+◌, min, leb, length};
-ghost use Rattle.bits.specs.Bits.{same_z};
-ghost use Rattle.format.specs.Operands.{zero_in};
 ghost use Rattle.format.specs.Records.{word_limit};
 ghost use Rattle.format.specs.WellFormed as Spec;
 ghost use Rattle.table_pieces.specs.Bytes.{byte_of};
 
-use bits::{Natural, as_natural};
+use bits::as_natural;
 use format::module::WORD_LIMIT;
 use format::types::Span;
 use spans::name;
@@ -38,58 +36,26 @@ pub fn has_room(words: &[i32], width: usize, w: usize) -> bool
 pub fn is_span(file: &[u8], s: Span) -> bool
     ensures { result ≡ Spec.is_span file.now s }
 {
-    let Natural::Is(from) = as_natural(s.start) else {
+    let Some(from) = as_natural(s.start) else {
         return false;
     };
-    let Natural::Is(count) = as_natural(s.len) else {
+    let Some(count) = as_natural(s.len) else {
         return false;
     };
     from + count <= file.len()
 }
 
-// No byte is zero.
-fn all_nonzero(part: &[u8]) -> bool
-    ensures { result ≡ Spec.is_none (zero_in part.now) }
-{
-    let mut i = 0;
-    while i < part.len() {
-        if part[i] == 0 {
-            return false;
-        }
-        i += 1;
-    }
-    true
-}
-
 pub fn is_name(file: &[u8], s: Span) -> bool
     ensures { result ≡ Spec.is_name file.now s }
 {
-    if !is_span(file, s) {
-        return false;
-    }
-    all_nonzero(name(file, s))
-}
-
-pub fn same_word(a: i32, b: i32) -> bool
-    ensures { result ≡ same_z a b }
-{
-    a == b
-}
-
-pub fn same_span(s: Span, t: Span) -> bool
-    ensures { result ≡ Spec.same_span s t }
-{
-    if same_word(s.start, t.start) {
-        return same_word(s.len, t.len);
-    }
-    false
+    is_span(file, s) && !name(file, s).contains(&0)
 }
 
 // A word as a byte; where it is none, 255, which is no opcode, mode or kind.
 pub fn byte_of(v: i32) -> u8
     ensures { result ≡ byte_of v }
 {
-    let Natural::Is(n) = as_natural(v) else {
+    let Some(n) = as_natural(v) else {
         return 255;
     };
     if n < 255 { n as u8 } else { 255 }

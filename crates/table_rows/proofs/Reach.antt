@@ -6,8 +6,9 @@ use mathlib.Core.List.{List}
 use lib.IntN.{ℤ}
 use lib.ListN.{length}
 use Rattle.format.specs.Reading.{got, Reads, give}
-use Rattle.law_format.specs.Loops.{Whole, renamed}
+use Rattle.law_format.specs.Loops.{Whole, renamed, end_of, ends}
 use Rattle.format.specs.WellFormed.{instruction_from, type_from, item_from, export_from, function_from, case_from}
+use Rattle.law_format.proofs.Many.{ended}
 use Rattle.law_format.proofs.Scans.{renamed_got}
 use Rattle.law_format.proofs.Whole.{whole_part}
 use Rattle.rows.specs.declared.Kind.{Kind}
@@ -34,3 +35,8 @@ module _ (file : List ℕ) (words : List ℤ) where
 -- a record behind a row that can be read can be read
 pub renamed-whole : {P A B : Type 0} (name : A → B) (read : Reads P A) (p : P) → Whole (renamed name read p) → Whole (read p)
 renamed-whole name read p h = whole_part (read p) (λ x. give (name x)) h
+
+module _ (file : List ℕ) (words : List ℤ) (kind : Kind) (w : ℕ) where
+  -- one that ends lies inside
+  pub row_inside : {q : ℕ} → end_of (row_from file words kind w) ≡ ends q → w + row_width kind ≤ length words
+  row_inside e = row_room file words kind w (ended (row_from file words kind w) e).1

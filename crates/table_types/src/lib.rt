@@ -5,19 +5,13 @@ ghost use Rattle.std.specs.Prelude.{◌≡◌, ◌+◌, ◌≤◌, length};
 ghost use Rattle.format.specs.Words.{type_width};
 ghost use Rattle.format.specs.WellFormed.{type_there, type_from};
 ghost use Rattle.table_types.specs.Tests.{map_right};
-ghost use Rattle.table_types.specs.View.{type_step};
+ghost use Rattle.law_format.specs.Views.{record_at};
 
-use bits::{Natural, as_natural};
+use bits::as_natural;
 use format::module::TYPE_WIDTH;
 use format::types::{Span, TypeDescriptor};
 use spans::count_pointers;
 use table_pieces::{has_room, is_span};
-
-#[derive(Clone, Copy)]
-pub enum TypeFrom {
-    Got(TypeDescriptor),
-    Bad,
-}
 
 // As the words stand.
 pub fn type_there(words: &[i32], w: usize) -> TypeDescriptor
@@ -39,27 +33,17 @@ pub fn type_there(words: &[i32], w: usize) -> TypeDescriptor
 fn map_right(file: &[u8], t: TypeDescriptor) -> bool
     ensures { result ≡ map_right file.now t }
 {
-    let map = t.map;
-    if !is_span(file, map) {
-        return false;
-    }
-    let pointers = t.pointers;
-    let Natural::Is(count) = as_natural(pointers) else {
-        return false;
-    };
-    count == count_pointers(file, map)
+    is_span(file, t.map)
+        && as_natural(t.pointers).is_some_and(|count| count == count_pointers(file, t.map))
 }
 
-pub fn type_from(file: &[u8], words: &[i32], w: usize) -> TypeFrom
-    ensures { type_step w result ≡ type_from file.now words.now w }
+#[tactic(auto, unfolding(format::specs::WellFormed::type_from))]
+pub fn type_from(file: &[u8], words: &[i32], w: usize) -> Option<TypeDescriptor>
+    ensures { record_at type_width w result ≡ type_from file.now words.now w }
 {
     if !has_room(words, TYPE_WIDTH, w) {
-        return TypeFrom::Bad;
+        return None;
     }
     let descriptor = type_there(words, w);
-    if map_right(file, descriptor) {
-        TypeFrom::Got(descriptor)
-    } else {
-        TypeFrom::Bad
-    }
+    map_right(file, descriptor).then_some(descriptor)
 }

@@ -1,4 +1,4 @@
-// What the numbers of a record say, and back: opcodes, modes, the addressing byte, flags and data kinds.
+// What the numbers of a record say: opcodes, the addressing byte, flags and the shapes of data.
 #![tactic(auto)]
 
 pub mod instruction;

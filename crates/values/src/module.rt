@@ -1,10 +1,9 @@
-// module.rs: flags, data kinds and their shapes.
+// module.rs: flags, and the shapes of data kinds.
 ghost use Rattle.std.specs.Prelude.{◌≡◌};
-ghost use Rattle.format.specs.Records.{has, flag_value, kind_of, kind_number, shape_of};
-ghost use Rattle.values.specs.View.{maybe_kind};
+ghost use Rattle.format.specs.Records.{has, flag_value, shape_of};
 
 use bits::bits_of;
-use format::module::{DataKind, Flag, MaybeDataKind, Shape};
+use format::module::{DataKind, Flag, Shape};
 
 // Whether a flag is set in the 32-bit two's complement of the header's number.
 pub fn contains(flags: i32, flag: Flag) -> bool
@@ -16,38 +15,6 @@ pub fn contains(flags: i32, flag: Flag) -> bool
         Flag::DontCompile => (bits >> 1) & 1 == 1,
         Flag::HasHandler => (bits >> 5) & 1 == 1,
         Flag::HasImport => (bits >> 6) & 1 == 1,
-    }
-}
-
-pub fn data_kind(n: u8) -> MaybeDataKind
-    ensures { maybe_kind result ≡ kind_of n }
-{
-    match n {
-        0 => MaybeDataKind::Unknown,
-        1 => MaybeDataKind::Is(DataKind::Bytes),
-        2 => MaybeDataKind::Is(DataKind::Words),
-        3 => MaybeDataKind::Is(DataKind::String),
-        4 => MaybeDataKind::Is(DataKind::Reals),
-        5 => MaybeDataKind::Is(DataKind::Array),
-        6 => MaybeDataKind::Is(DataKind::SetArray),
-        7 => MaybeDataKind::Is(DataKind::Restore),
-        8 => MaybeDataKind::Is(DataKind::Bigs),
-        9..=255 => MaybeDataKind::Unknown,
-    }
-}
-
-pub fn kind_number(kind: DataKind) -> u8
-    ensures { result ≡ kind_number kind }
-{
-    match kind {
-        DataKind::Bytes => 1,
-        DataKind::Words => 2,
-        DataKind::String => 3,
-        DataKind::Reals => 4,
-        DataKind::Array => 5,
-        DataKind::SetArray => 6,
-        DataKind::Restore => 7,
-        DataKind::Bigs => 8,
     }
 }
 

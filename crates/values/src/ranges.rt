@@ -2,14 +2,11 @@
 ghost use Rattle.std.specs.Prelude.{◌≡◌};
 ghost use Rattle.format.specs.Checks as Spec;
 
-use bits::{Natural, as_natural};
+use bits::as_natural;
 
 // 0..n-1
 pub fn below(n: usize, v: i32) -> bool
     ensures { result ≡ Spec.below n v }
 {
-    let Natural::Is(k) = as_natural(v) else {
-        return false;
-    };
-    k < n
+    as_natural(v).is_some_and(|k| k < n)
 }

@@ -1,52 +1,53 @@
-// An event in tables that are known to be well-formed: the export's record, and the handlers.
-ghost use Rattle.std.specs.Prelude.{◌≡◌};
-ghost use Rattle.std.proofs.Math.ListN.{get_elem?};
-ghost use Rattle.format.specs.Reading.{many};
-ghost use Rattle.law_format.specs.Loops.{leading, Whole};
-ghost use Rattle.format.specs.WellFormed.{export_from, handled_from};
+// An event in tables that the check found good: the export's record, and the handlers.
+ghost use Rattle.std.specs.Prelude.{◌≡◌, Ok};
 ghost use Rattle.format.specs.Walk as Spec;
 
 use format::module::EXPORT_WIDTH;
 use format::refusal::Refusal;
-use format::walk::{State, Stop, WalkAnswer};
-use table_check::Places;
+use format::walk::{State, Stayed, Stop};
+use table_check::tables::Tables;
 use table_names::export_there;
-use walk_moves::{Standing, caught, exported, standing_in};
-use walk_search::{Chosen, search};
+use walk_moves::{caught, exported, standing_in};
+use walk_search::search;
 
 // 25, or where the export leads.
-pub fn export_in(file: &[u8], words: &[i32], places: Places, k: u32, state: State) -> WalkAnswer
-    requires { Whole (many (export_from file.now words.now) places.counts.exports places.at_exports) }
-    ensures { Spec.export_or places.counts.code places.counts.types state k (get_elem? (leading (export_from file.now words.now) places.counts.exports places.at_exports) k) ≡ result }
+#[tactic(auto, using(crate::proofs::Events::exports_whole, crate::proofs::Events::export_room))]
+pub fn export_in(tables: Tables, k: u32, state: State) -> Result<State, Stayed>
+    ensures { Spec.walk_of tables.entry.«module» tables.entry.file.bytes.now tables.entry.words.now (Spec.export k) state ≡ result }
 {
+    let places = tables.places;
     let counts = places.counts;
     let number = k as usize;
     if counts.exports <= number {
-        return WalkAnswer::Refused {
+        return Err(Stayed {
             why: Refusal::NoExport { number: k },
             state,
-        };
+        });
     }
-    let export = export_there(words, places.at_exports + EXPORT_WIDTH * number);
-    WalkAnswer::Walked(exported(counts.code, counts.types, export))
+    let export = export_there(tables.words, places.at_exports + EXPORT_WIDTH * number);
+    Ok(exported(counts.sizes(), export))
 }
 
 // Where a raised name leads, from a pc that the module has.
-pub fn raise_in(file: &[u8], words: &[i32], places: Places, raised: &[u8], state: State) -> State
-    requires { Whole (many (handled_from file.now words.now) places.counts.handlers places.at_handlers) }
-    ensures { result ≡ Spec.from_there places.counts.code places.counts.types (λ pc frame. Spec.first_handler places.counts.code places.counts.types file.now raised.now pc (leading (handled_from file.now words.now) places.counts.handlers places.at_handlers)) state }
+#[tactic(auto, using(crate::proofs::Events::handlers_whole))]
+pub fn raise_in(tables: Tables, raised: &[u8], state: State) -> State
+    ensures { Spec.walk_of tables.entry.«module» tables.entry.file.bytes.now tables.entry.words.now (Spec.raise raised.now) state ≡ Ok result }
 {
+    let places = tables.places;
     let counts = places.counts;
-    match standing_in(counts.code, counts.types, state) {
-        Standing::Stays(same) => same,
-        Standing::At { pc, frame: _ } => {
-            match search(file, words, counts.handlers, places.at_handlers, raised, pc) {
-                Chosen::Nothing => State::Stopped(Stop::Uncaught),
-                Chosen::Case {
-                    descriptor,
-                    last,
-                    pc: chosen,
-                } => caught(counts.code, counts.types, descriptor, last, chosen),
+    match standing_in(counts.sizes(), state) {
+        Err(same) => same,
+        Ok((pc, _)) => {
+            match search(
+                tables.file.bytes,
+                tables.words,
+                counts.handlers,
+                places.at_handlers,
+                raised,
+                pc,
+            ) {
+                None => State::Stopped(Stop::Uncaught),
+                Some(chosen) => caught(counts.sizes(), chosen.descriptor, chosen.last, chosen.pc),
             }
         }
     }

@@ -1,12 +1,12 @@
 // What an event makes of a walk's state, in a module of so many instructions and types. No tables are read here.
 #![tactic(auto)]
 
-ghost use Rattle.std.specs.Prelude.{◌≡◌, true, ◌&&◌, ◌≤◌, ◌^◌};
+ghost use Rattle.std.specs.Prelude.{◌≡◌, true, ◌≤◌, ◌^◌};
 ghost use Rattle.format.specs.Checks as Checks;
 ghost use Rattle.format.specs.Walk as Spec;
 ghost use Rattle.walk_moves.specs.Stands.{Stands};
 
-use format::module::{ExportEntry, Header};
+use format::module::{ExportEntry, Header, Sizes};
 use format::walk::{Frame, State, Stop};
 use values::ranges::below;
 
@@ -44,67 +44,61 @@ fn has_frame(types: usize, frame: Frame) -> bool
     }
 }
 
-fn has_both(code: usize, types: usize, pc: i32, frame: Frame) -> bool
-    ensures { result ≡ Spec.has_both code types pc frame }
+#[tactic(auto, unfolding(format::specs::Walk::has_both))]
+fn has_both(sizes: Sizes, pc: i32, frame: Frame) -> bool
+    ensures { result ≡ Spec.has_both sizes.code sizes.types pc frame }
 {
-    if below(code, pc) {
-        return has_frame(types, frame);
-    }
-    false
+    below(sizes.code, pc) && has_frame(sizes.types, frame)
 }
 
 // A missing instruction or type is broken.
-fn go_to(code: usize, types: usize, pc: i32, frame: Frame) -> State
-    ensures { result ≡ Spec.go_to code types pc frame }
+#[tactic(auto, unfolding(format::specs::Walk::go_to))]
+fn go_to(sizes: Sizes, pc: i32, frame: Frame) -> State
+    ensures { result ≡ Spec.go_to sizes.code sizes.types pc frame }
 {
-    if has_both(code, types, pc, frame) {
+    if has_both(sizes, pc, frame) {
         return State::At { pc, frame };
     }
     State::Broken
 }
 
 // "No entry" comes before the frame is looked at.
-pub fn entered(code: usize, types: usize, header: Header) -> State
-    ensures { result ≡ Spec.entered code types header }
+#[tactic(auto, unfolding(format::specs::Walk::entered))]
+pub fn entered(sizes: Sizes, header: Header) -> State
+    ensures { result ≡ Spec.entered sizes.code sizes.types header }
 {
     let pc = header.entry_pc;
     if pc == -1 {
         return State::Stopped(Stop::NoEntry);
     }
-    go_to(code, types, pc, frame_of(types, header.entry_type))
+    go_to(sizes, pc, frame_of(sizes.types, header.entry_type))
 }
 
-pub fn exported(code: usize, types: usize, export: ExportEntry) -> State
-    ensures { result ≡ Spec.exported code types export }
+#[tactic(auto, unfolding(format::specs::Walk::exported))]
+pub fn exported(sizes: Sizes, export: ExportEntry) -> State
+    ensures { result ≡ Spec.exported sizes.code sizes.types export }
 {
     let pc = export.pc;
     if pc < 0 {
         return State::Stopped(Stop::NoCode);
     }
-    go_to(code, types, pc, frame_of(types, export.frame))
-}
-
-// Only the last case's -1 is none.
-fn no_catch_all(last: bool, pc: i32) -> bool
-    ensures { result ≡ (last && Checks.minus_one pc) }
-{
-    if last {
-        return pc == -1;
-    }
-    false
+    go_to(sizes, pc, frame_of(sizes.types, export.frame))
 }
 
 // At the case that was chosen, last or not, of a handler with the type t.
-pub fn caught(code: usize, types: usize, t: i32, last: bool, pc: i32) -> State
-    ensures { result ≡ Spec.caught code types t last pc }
+#[tactic(auto, unfolding(format::specs::Walk::caught))]
+pub fn caught(sizes: Sizes, t: i32, last: bool, pc: i32) -> State
+    ensures { result ≡ Spec.caught sizes.code sizes.types t last pc }
 {
-    if no_catch_all(last, pc) {
+    // Only the last case's -1 is none.
+    if last && pc == -1 {
         return State::Stopped(Stop::NoCatchAll);
     }
-    go_to(code, types, pc, handler_frame(t))
+    go_to(sizes, pc, handler_frame(t))
 }
 
 // From a pc of the code.
+#[tactic(auto, unfolding(format::specs::Walk::advanced))]
 fn advanced(code: usize, pc: i32, frame: Frame) -> State
     requires { (code ≤ 2 ^ 31) × (Checks.below code pc ≡ true) }
     ensures { result ≡ Spec.advanced code pc frame }
@@ -119,37 +113,26 @@ fn advanced(code: usize, pc: i32, frame: Frame) -> State
     State::Stopped(Stop::EndOfCode)
 }
 
-// From where next and raise go on: a pc, or not at all.
-#[derive(Clone, Copy)]
-pub enum Standing {
-    At { pc: i32, frame: Frame },
-    Stays(State),
-}
-
-// They do nothing when idle, stopped or broken; a pc or a frame that the module lacks is broken.
-pub fn standing_in(code: usize, types: usize, state: State) -> Standing
-    ensures { Stands code types state result }
+// From where next and raise go on: a pc with its frame, or the state that stays. They do nothing when idle, stopped or broken; a pc or a frame that the module lacks is broken.
+#[tactic(auto, unfolding(format::specs::Walk::from_there))]
+pub fn standing_in(sizes: Sizes, state: State) -> Result<(i32, Frame), State>
+    ensures { Stands sizes.code sizes.types state result }
 {
     match state {
-        State::Idle => Standing::Stays(State::Idle),
-        State::Stopped(why) => Standing::Stays(State::Stopped(why)),
-        State::Broken => Standing::Stays(State::Broken),
-        State::At { pc, frame } => {
-            if has_both(code, types, pc, frame) {
-                return Standing::At { pc, frame };
-            }
-            Standing::Stays(State::Broken)
-        }
+        State::At { pc, frame } if has_both(sizes, pc, frame) => Ok((pc, frame)),
+        State::At { .. } => Err(State::Broken),
+        State::Idle | State::Stopped(_) | State::Broken => Err(state),
     }
 }
 
 // Next: to the instruction that follows, or to the end of the code.
-pub fn stepped(code: usize, types: usize, state: State) -> State
-    requires { code ≤ 2 ^ 31 }
-    ensures { result ≡ Spec.from_there code types (Spec.advanced code) state }
+#[tactic(auto, using(crate::proofs::Below::had_code))]
+pub fn stepped(sizes: Sizes, state: State) -> State
+    requires { sizes.code ≤ 2 ^ 31 }
+    ensures { result ≡ Spec.from_there sizes.code sizes.types (Spec.advanced sizes.code) state }
 {
-    match standing_in(code, types, state) {
-        Standing::Stays(same) => same,
-        Standing::At { pc, frame } => advanced(code, pc, frame),
+    match standing_in(sizes, state) {
+        Err(same) => same,
+        Ok((pc, frame)) => advanced(sizes.code, pc, frame),
     }
 }

@@ -1,13 +1,14 @@
 -- Handlers and their cases as the words stand: what is there where they are known to be good, and how a search among them goes on.
 -- Assumes nothing.
 use Prim.Native.Nat.{ℕ, zero, suc, ◌+◌, ◌-◌, ◌*◌, ◌≤◌, ◌<◌}
+use Rattle.std.specs.Prelude.{Option, None}
 use mathlib.Core.Path.{◌≡◌, refl, sym, ap, ◌∙◌}
-use mathlib.Core.Bool.{true, false}
+use mathlib.Core.Bool.{Bool, true, false}
 use mathlib.Core.List.{List, [], ◌∷◌, ◌++◌}
 use native.Mathlib.Nat.{add-zero, mul-zero}
 use native.Mathlib.Numerals.{sub-one}
 use native.Mathlib.Omega.{arith}
-use borrow.Author.Tests.{ne_eqb}
+use borrow.Author.Tests.{eq-eqb, ne_eqb, eqb-true, eqb-false}
 use lib.Dec.{eqb}
 use lib.IntN.{ℤ}
 use lib.ListN.{length}
@@ -29,8 +30,7 @@ use Rattle.law_format.proofs.Whole.{whole_got, whole_first, whole_next}
 use Rattle.table_pieces.proofs.Tested.{there_got}
 use Rattle.table_handlers.proofs.Handlers.{cases, lasts, handlers, few_cases}
 use Rattle.walk_search.specs.declared.Chosen.{Chosen}
-use Rattle.walk_search.specs.declared.Chosen.TheVariants.{Nothing, Case}
-use Rattle.walk_search.specs.Choice.{chosen_case, chosen_in}
+use Rattle.walk_search.specs.Choice.{one_case, chosen_case, chosen_in}
 
 -- ---- n cases, one after the other
 
@@ -111,7 +111,7 @@ module _ (file : List ℕ) (words : List ℤ) where
 
 -- ---- a search among what is left of a handler's cases
 
-module _ (file raised : List ℕ) (words : List ℤ) (t : ℤ) (answer : Chosen) where
+module _ (file raised : List ℕ) (words : List ℤ) (t : ℤ) (answer : Option Chosen) where
   pub record Left (more at : ℕ) : Type 0 where
     pub some : 0 < more
     pub room : at + case_width * more ≤ length words
@@ -128,7 +128,7 @@ module _ (file raised : List ℕ) (words : List ℤ) (t : ℤ) (answer : Chosen)
   last_is (suc n) = ne_eqb (suc n) 0 (λ q. absurd (omega (arith, q))) ∙ sym (ne_eqb (suc (suc n)) 1 (λ q. absurd (omega (arith, q))))
 
   found_at : (more at : ℕ) → 0 < more → takes (shown file (case_there words at).name) raised ≡ true
-      → chosen_case file raised t (cases_there words more at) ≡ Case t (eqb more 1) (case_there words at).pc
+      → chosen_case file raised t (cases_there words more at) ≡ one_case t (eqb more 1) (case_there words at).pc
   unfolding chosen_case
   found_at zero at h e = absurd (omega arith)
   found_at (suc n) at h e = rw (e, cases_length words n (at + case_width), last_is n)
@@ -140,10 +140,10 @@ module _ (file raised : List ℕ) (words : List ℤ) (t : ℤ) (answer : Chosen)
   passed_by (suc n) at h e = rw (e, sub-one)
 
   module _ {more at : ℕ} (l : Left more at) where
-    pub finds_it : takes (shown file (case_there words at).name) raised ≡ true → Case t (eqb more 1) (case_there words at).pc ≡ answer
+    finds_it : takes (shown file (case_there words at).name) raised ≡ true → one_case t (eqb more 1) (case_there words at).pc ≡ answer
     finds_it e = sym (found_at more at l.some e) ∙ l.finds
 
-    pub goes_on : takes (shown file (case_there words at).name) raised ≡ false → Left (more - 1) (at + case_width)
+    goes_on : takes (shown file (case_there words at).name) raised ≡ false → Left (more - 1) (at + case_width)
     goes_on e =
         let not_last : more ≡ 1 → ⊥ = λ one. let f = last_takes at more one l.nameless in let z : ◌≡◌ {A = ℕ} 0 1 = cc in absurd (omega arith) in
         let some : 0 < more - 1 = omega (arith, l.some, not_last) in
@@ -155,9 +155,21 @@ module _ (file raised : List ℕ) (words : List ℤ) (t : ℤ) (answer : Chosen)
           finds = sym (passed_by more at l.some e) ∙ l.finds;
         }
 
+-- the same, of n cases of which i were passed
+last_by : (n i : ℕ) → i < n → (t : Bool) → eqb (i + 1) n ≡ t → eqb (n - i) 1 ≡ t
+last_by n i h true e = let q = eqb-true (i + 1) n e in eq-eqb (n - i) 1 (omega arith)
+last_by n i h false e = ne_eqb (n - i) 1 (λ q. eqb-false (i + 1) n e (omega (arith, q)))
+
+module _ (file raised : List ℕ) (words : List ℤ) (t : ℤ) (answer : Option Chosen) (n i : ℕ) {at : ℕ} (l : Left file raised words t answer (n - i) at) where
+  pub finds_case : takes (shown file (case_there words at).name) raised ≡ true → one_case t (eqb (i + 1) n) (case_there words at).pc ≡ answer
+  finds_case e = rw (← last_by n i (omega (arith, l.some)) (eqb (i + 1) n) refl) (finds_it file raised words t answer l e)
+
+  pub passes_case : takes (shown file (case_there words at).name) raised ≡ false → Left file raised words t answer (n - (i + 1)) (at + case_width)
+  passes_case e = let more : n - i - 1 ≡ n - (i + 1) = omega arith in rw (← more) (goes_on file raised words t answer l e)
+
 -- ---- a search among what is left of the handlers
 
-module _ (file raised : List ℕ) (words : List ℤ) (pc : ℤ) (answer : Chosen) where
+module _ (file raised : List ℕ) (words : List ℤ) (pc : ℤ) (answer : Option Chosen) where
   pub record Among (left here : ℕ) : Type 0 where
     pub all : Whole (many (handled_from file words) left here)
     pub finds : chosen_in file raised pc (leading (handled_from file words) left here) ≡ answer
@@ -171,11 +183,11 @@ module _ (file raised : List ℕ) (words : List ℤ) (pc : ℤ) (answer : Chosen
     unfolding chosen_in
     not_covered e = rw e
 
-  none_left : chosen_in file raised pc [] ≡ Nothing
+  none_left : chosen_in file raised pc [] ≡ None
   unfolding chosen_in
   none_left = refl
 
-  pub uncaught : {left here : ℕ} → Among left here → left ≡ 0 → Nothing ≡ answer
+  pub uncaught : {left here : ℕ} → Among left here → left ≡ 0 → None ≡ answer
   uncaught {left} {here} a e = sym none_left ∙ sym (ap (chosen_in file raised pc) (leading-done (handled_from file words) left here e)) ∙ a.finds
 
   -- the handler that stands here

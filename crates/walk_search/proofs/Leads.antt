@@ -4,6 +4,7 @@ use Prim.Native.Nat.{ℕ}
 use mathlib.Core.Path.{◌≡◌, refl}
 use mathlib.Core.Bool.{Bool, true, false, cond}
 use mathlib.Core.List.{List, [], ◌∷◌}
+use Rattle.std.specs.Prelude.{Option}
 use lib.IntN.{ℤ}
 use Rattle.format.specs.declared.module.ExceptionCase.{ExceptionCase}
 use Rattle.format.specs.declared.walk.State.{State}
@@ -14,7 +15,7 @@ use Rattle.walk_search.specs.declared.Chosen.{Chosen}
 use Rattle.walk_search.specs.Choice.{chosen_case, chosen_in, leads_to}
 
 module _ (code types : ℕ) where
-  either : (t : Bool) (a b : Chosen) {s u : State} → leads_to code types a ≡ s → leads_to code types b ≡ u → leads_to code types (cond t a b) ≡ cond t s u
+  either : (t : Bool) (a b : Option Chosen) {s u : State} → leads_to code types a ≡ s → leads_to code types b ≡ u → leads_to code types (cond t a b) ≡ cond t s u
   either true a b p q = p
   either false a b p q = q
 

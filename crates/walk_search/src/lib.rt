@@ -15,57 +15,56 @@ use format::module::{CASE_WIDTH, HANDLER_WIDTH, Handler};
 use table_handlers::{case_there, handler_there};
 
 // begin <= pc < end
+#[tactic(auto, unfolding(format::specs::Walk::covers))]
 fn covers(handler: Handler, pc: i32) -> bool
     ensures { result ≡ Spec.covers pc handler }
 {
-    if handler.begin <= pc {
-        return pc < handler.end;
-    }
-    false
+    handler.begin <= pc && pc < handler.end
 }
 
-// Where a raised name leads: nowhere, or to a case's pc, in a handler with such a type.
+// Where a raised name leads: to a case's pc, in a handler with such a type.
 #[derive(Clone, Copy)]
-pub enum Chosen {
-    Nothing,
-    Case {
-        descriptor: i32,
-        last: bool,
-        pc: i32,
-    },
+pub struct Chosen {
+    pub descriptor: i32,
+    pub last: bool,
+    pub pc: i32,
 }
 
 // Among n handlers that are known to be good.
-pub fn search(file: &[u8], words: &[i32], n: usize, w: usize, raised: &[u8], pc: i32) -> Chosen
+pub fn search(
+    file: &[u8],
+    words: &[i32],
+    n: usize,
+    w: usize,
+    raised: &[u8],
+    pc: i32,
+) -> Option<Chosen>
     requires { Whole (many (handled_from file.now words.now) n w) }
     ensures { result ≡ chosen_in file.now raised.now pc (leading (handled_from file.now words.now) n w) }
 {
-    let mut chosen = Chosen::Nothing;
+    let mut chosen = None;
     let mut here = w;
-    let mut left = n;
-    'search: while 0 < left {
+    'search: for _ in 0..n {
         let handler = handler_there(words, here);
         let cases = handler.cases as usize;
+        let mut at = here + HANDLER_WIDTH;
         if covers(handler, pc) {
-            let mut at = here + HANDLER_WIDTH;
-            let mut more = cases;
-            // The last case is nameless: one of them takes the name.
-            loop {
+            for i in 0..cases {
                 let case = case_there(words, at);
                 if case_takes(file, case, raised) {
-                    chosen = Chosen::Case {
+                    chosen = Some(Chosen {
                         descriptor: handler.descriptor,
-                        last: more == 1,
+                        last: i + 1 == cases,
                         pc: case.pc,
-                    };
+                    });
                     break 'search;
                 }
                 at += CASE_WIDTH;
-                more -= 1;
             }
+            // The last case is nameless: one of them took the name.
+            break 'search;
         }
-        here = here + HANDLER_WIDTH + CASE_WIDTH * cases;
-        left -= 1;
+        here = at + CASE_WIDTH * cases;
     }
     chosen
 }

@@ -13,7 +13,9 @@ use lib.IntN.{ℤ}
 use lib.Signed.{mag}
 use lib.ListN.{length, length-map}
 use Rattle.format.specs.declared.module.Module.{Module}
-use Rattle.format.specs.declared.module.WriteAnswer.TheVariants.{Written, Refused}
+use Rattle.std.specs.Prelude.{Ok, Err, IsErr}
+use Rattle.std.specs.Result.{IsErrAnd}
+use Rattle.format.specs.Answers.{WriteAnswer}
 use Rattle.format.specs.declared.refusal.Refusal.{Refusal}
 use Rattle.format.specs.declared.refusal.Refusal.TheVariants.{TooLarge, NoFlag, ShortOutput}
 use Rattle.format.specs.Reading.{got, refused}
@@ -46,36 +48,41 @@ use Rattle.write_measure.proofs.Grouped.{rows_lines, map-map}
 -- ---- the answers
 
 module _ (m : Module) (file : List ℕ) (words : List ℤ) (out : List ℕ) where
-  pub write_refused : {why : Refusal} → records_of m file words ≡ refused why → write_of m file words out ≡ (Refused why, out)
+  pub write_refused : {why : Refusal} → records_of m file words ≡ refused why → write_of m file words out ≡ (Err why, out)
   unfolding write_of writtenBytes written
   write_refused e = rw e
 
   module _ {r : Records} {w : ℕ} (reads : records_of m file words ≡ got r w) where
-    pub write_unflagged : {why : Refusal} → flag_fault r ≡ some why → write_of m file words out ≡ (Refused why, out)
+    pub write_unflagged : {why : Refusal} → flag_fault r ≡ some why → write_of m file words out ≡ (Err why, out)
     unfolding write_of writtenBytes written
     write_unflagged e = rw (reads, e)
 
     module _ (flags : flag_fault r ≡ none) where
-      pub write_wide : {why : Refusal} → wide_fault 0 (layout (content_of file r)) ≡ some why → write_of m file words out ≡ (Refused why, out)
+      pub write_wide : {why : Refusal} → wide_fault 0 (layout (content_of file r)) ≡ some why → write_of m file words out ≡ (Err why, out)
       unfolding write_of writtenBytes written
       write_wide e = rw (reads, flags, e)
 
       module _ (narrow : wide_fault 0 (layout (content_of file r)) ≡ none) where
-        pub write_large : size_limit < length (encode (content_of file r)) → write_of m file words out ≡ (Refused TooLarge, out)
+        pub write_large : size_limit < length (encode (content_of file r)) → write_of m file words out ≡ (Err TooLarge, out)
         unfolding write_of writtenBytes written
         write_large h = rw (reads, flags, narrow, lt-leb (length (encode (content_of file r))) size_limit h)
 
         module _ (fits : length (encode (content_of file r)) ≤ size_limit) where
-          pub write_short : length out < length (encode (content_of file r)) → write_of m file words out ≡ (Refused (ShortOutput (length (encode (content_of file r)))), out)
+          pub write_short : length out < length (encode (content_of file r)) → write_of m file words out ≡ (Err (ShortOutput (length (encode (content_of file r)))), out)
           unfolding write_of writtenBytes written
           write_short h =
               rw (reads, flags, narrow, le-leb (length (encode (content_of file r))) size_limit fits, lt-leb (length (encode (content_of file r))) (length out) h)
 
           pub write_whole : length (encode (content_of file r)) ≤ length out
-              → write_of m file words out ≡ (Written (length (encode (content_of file r))), put 0 (encode (content_of file r)) out)
+              → write_of m file words out ≡ (Ok (length (encode (content_of file r))), put 0 (encode (content_of file r)) out)
           unfolding write_of writtenBytes written
           write_whole h =
               rw (reads, flags, narrow, le-leb (length (encode (content_of file r))) size_limit fits, le-leb (length (encode (content_of file r))) (length out) h)
+
+-- a refusal that is handed on
+pub handed : (r : WriteAnswer) {why : Refusal} {out : List ℕ} {x : WriteAnswer × List ℕ} → IsErr r × IsErrAnd r (λ y. y ≡ why) → x ≡ (Err why, out) → x ≡ (r, out)
+handed (Ok n) i e = absurd i.1
+handed (Err y) i e = rw i.1 e
 
 -- ---- refusal 23
 

@@ -85,6 +85,10 @@ module _ {A : Type 0} (lines : A → List Line) (read : Reads ℕ A) where
   pub laying : (n w at : ℕ) (l : List ℕ) → Whole (many read n w) → Ready (run n w) at l → Laying n w at l n w at l
   laying n w at l a r = record { chain = writing r; stopped = refl; all = a }
 
+  -- the rest, by another name
+  pub rest_is : {n w at : ℕ} {l₀ : List ℕ} {left rest here place : ℕ} {l : List ℕ} → rest + 1 ≡ left → Laying n w at l₀ (left - 1) here place l → Laying n w at l₀ rest here place l
+  rest_is {left = left} {rest = rest} e y = let back : rest ≡ left - 1 = omega (arith, e) in rw back y
+
   module _ {n w at : ℕ} {l₀ : List ℕ} {left here place : ℕ} {l : List ℕ} (y : Laying n w at l₀ left here place l) where
     module _ (more : 0 < left) {x : A} {next : ℕ} (e : read here ≡ got x next) where
       apart : run left here ≡ parts_of (lines x) ++ run (left - 1) next

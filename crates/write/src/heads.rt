@@ -14,10 +14,8 @@ pub fn put_operands(out: &mut [u8], at: usize, values: &[i32]) -> usize
     ensures { Laid (map operand values.now) at out.old result out.new }
 {
     let mut place = at;
-    let mut i = 0;
-    while i < values.len() {
-        place = put_operand(out, place, values[i]);
-        i += 1;
+    for &value in values {
+        place = put_operand(out, place, value);
     }
     place
 }

@@ -1,8 +1,6 @@
 // Runs of rows of one kind: one loop for every kind, and before it another for most of the instructions.
-ghost use Rattle.std.specs.Prelude.{◌≤◌, length};
 ghost use Rattle.format.specs.Reading.{many};
 ghost use Rattle.law_format.specs.Loops.{leading, reached, Whole};
-ghost use Rattle.format.specs.Records.{size_limit};
 ghost use Rattle.format.specs.Words.{flatten};
 ghost use Rattle.write_bytes.specs.Laid.{Ready, Laid};
 ghost use Rattle.table_rows.specs.Rows.{row_from};
@@ -11,6 +9,7 @@ ghost use Rattle.write_measure.specs.Rows.{parts_in};
 ghost use Rattle.write.specs.Wrote.{parts_of, Done};
 
 use format::module::INSTRUCTION_WIDTH;
+use format::types::File;
 use rows::Kind;
 use table_data::item_there;
 use table_handlers::case_there;
@@ -29,74 +28,62 @@ pub struct Wrote {
 }
 
 // A row that is known to be good: names are not looked at again, nor the ones of a map counted.
-fn put_from(file: &[u8], words: &[i32], kind: Kind, w: usize, out: &mut [u8], at: usize) -> usize
-    requires { (length file.now ≤ size_limit) × Whole (row_from file.now words.now kind w) × Ready (parts_in file.now (row_from file.now words.now kind w)) at out.old }
-    ensures { Laid (parts_in file.now (row_from file.now words.now kind w)) at out.old result out.new }
+fn put_from(file: File, words: &[i32], kind: Kind, w: usize, out: &mut [u8], at: usize) -> usize
+    requires { Whole (row_from file.bytes.now words.now kind w) × Ready (parts_in file.bytes.now (row_from file.bytes.now words.now kind w)) at out.old }
+    ensures { Laid (parts_in file.entry.bytes.now (row_from file.entry.bytes.now words.now kind w)) at out.old result out.new }
 {
     match kind {
         Kind::Code => put_there(words, w, out, at),
         Kind::Types => put_type(file, out, at, type_there(words, w)),
-        Kind::Items => put_item(file, out, at, item_there(words, w)),
-        Kind::Exports => put_export(file, out, at, export_there(words, w)),
-        Kind::Functions => put_function(file, out, at, function_there(words, w)),
-        Kind::Cases => put_case(file, out, at, case_there(words, w)),
+        Kind::Items => put_item(file.bytes, out, at, item_there(words, w)),
+        Kind::Exports => put_export(file.bytes, out, at, export_there(words, w)),
+        Kind::Functions => put_function(file.bytes, out, at, function_there(words, w)),
+        Kind::Cases => put_case(file.bytes, out, at, case_there(words, w)),
     }
 }
 
-fn write_each(
-    file: &[u8],
-    words: &[i32],
-    kind: Kind,
-    n: usize,
-    w: usize,
-    out: &mut [u8],
-    at: usize,
-) -> Wrote
-    requires { (length file.now ≤ size_limit) × Whole (many (row_from file.now words.now kind) n w) × Ready (parts_of (flatten (row_lines file.now) (leading (row_from file.now words.now kind) n w))) at out.old }
-    ensures { Done (parts_of (flatten (row_lines file.now) (leading (row_from file.now words.now kind) n w))) (reached (row_from file.now words.now kind) n w) at out.old result out.new }
+#[tactic(auto, using(crate::proofs::Laying::laying))]
+fn write_each(file: File, words: &[i32], kind: Kind, n: usize, from: Wrote, out: &mut [u8]) -> Wrote
+    requires { Whole (many (row_from file.bytes.now words.now kind) n from.next) × Ready (parts_of (flatten (row_lines file.bytes.now) (leading (row_from file.bytes.now words.now kind) n from.next))) from.place out.old }
+    ensures { Done (parts_of (flatten (row_lines file.entry.bytes.now) (leading (row_from file.entry.bytes.now words.now kind) n from.next))) (reached (row_from file.entry.bytes.now words.now kind) n from.next) from.place out.old result out.new }
 {
     let width = row_width(kind);
-    let mut here = w;
-    let mut left = n;
-    let mut place = at;
-    while 0 < left {
-        place = put_from(file, words, kind, here, out, place);
-        here += width;
-        left -= 1;
+    let mut done = from;
+    for _ in 0..n {
+        done.place = put_from(file, words, kind, done.next, out, done.place);
+        done.next += width;
     }
-    Wrote { next: here, place }
+    done
 }
 
 // Instructions are most of a module: all but the last two of them are written by slots of four bytes.
-fn write_code(file: &[u8], words: &[i32], n: usize, w: usize, out: &mut [u8], at: usize) -> Wrote
-    requires { (length file.now ≤ size_limit) × Whole (many (row_from file.now words.now Kind.Code) n w) × Ready (parts_of (flatten (row_lines file.now) (leading (row_from file.now words.now Kind.Code) n w))) at out.old }
-    ensures { Done (parts_of (flatten (row_lines file.now) (leading (row_from file.now words.now Kind.Code) n w))) (reached (row_from file.now words.now Kind.Code) n w) at out.old result out.new }
+#[tactic(auto, using(crate::proofs::Laying::laying))]
+fn write_code(file: File, words: &[i32], n: usize, from: Wrote, out: &mut [u8]) -> Wrote
+    requires { Whole (many (row_from file.bytes.now words.now Kind.Code) n from.next) × Ready (parts_of (flatten (row_lines file.bytes.now) (leading (row_from file.bytes.now words.now Kind.Code) n from.next))) from.place out.old }
+    ensures { Done (parts_of (flatten (row_lines file.entry.bytes.now) (leading (row_from file.entry.bytes.now words.now Kind.Code) n from.next))) (reached (row_from file.entry.bytes.now words.now Kind.Code) n from.next) from.place out.old result out.new }
 {
-    let mut here = w;
-    let mut left = n;
-    let mut place = at;
-    while 2 < left {
-        place = put_over(words, here, out, place);
-        here += INSTRUCTION_WIDTH;
-        left -= 1;
+    let last = n.min(2);
+    let mut done = from;
+    for _ in 0..n - last {
+        done.place = put_over(words, done.next, out, done.place);
+        done.next += INSTRUCTION_WIDTH;
     }
-    write_each(file, words, Kind::Code, left, here, out, place)
+    write_each(file, words, Kind::Code, last, done, out)
 }
 
 pub fn write_rows(
-    file: &[u8],
+    file: File,
     words: &[i32],
     kind: Kind,
     n: usize,
-    w: usize,
+    from: Wrote,
     out: &mut [u8],
-    at: usize,
 ) -> Wrote
-    requires { (length file.now ≤ size_limit) × Whole (many (row_from file.now words.now kind) n w) × Ready (parts_of (flatten (row_lines file.now) (leading (row_from file.now words.now kind) n w))) at out.old }
-    ensures { Done (parts_of (flatten (row_lines file.now) (leading (row_from file.now words.now kind) n w))) (reached (row_from file.now words.now kind) n w) at out.old result out.new }
+    requires { Whole (many (row_from file.bytes.now words.now kind) n from.next) × Ready (parts_of (flatten (row_lines file.bytes.now) (leading (row_from file.bytes.now words.now kind) n from.next))) from.place out.old }
+    ensures { Done (parts_of (flatten (row_lines file.entry.bytes.now) (leading (row_from file.entry.bytes.now words.now kind) n from.next))) (reached (row_from file.entry.bytes.now words.now kind) n from.next) from.place out.old result out.new }
 {
     match kind {
-        Kind::Code => write_code(file, words, n, w, out, at),
-        _ => write_each(file, words, kind, n, w, out, at),
+        Kind::Code => write_code(file, words, n, from, out),
+        _ => write_each(file, words, kind, n, from, out),
     }
 }

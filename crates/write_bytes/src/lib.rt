@@ -1,25 +1,23 @@
 // The bytes of a row that is no instruction, written at a place of the output. Each answers the place past them.
 #![tactic(auto)]
 
-ghost use Rattle.std.specs.Prelude.{◌≤◌, ◌<◌, length};
-ghost use Rattle.format.specs.Records.{size_limit};
+ghost use Rattle.std.specs.Prelude.{◌<◌};
 ghost use Rattle.format.specs.Content.{type_shown, item_shown, export_shown, function_shown, case_shown};
 ghost use Rattle.format.specs.Writing.{code_parts, type_line, item_line, export_line, function_line, case_line};
 ghost use Rattle.write_bytes.specs.Laid.{Ready, Laid};
 
 use format::module::{DataItem, ExceptionCase, ExportEntry, ImportEntry};
-use format::types::TypeDescriptor;
+use format::types::{File, TypeDescriptor};
 use spans::name;
-use values::module::kind_number;
 use write_lines::length::is_inline;
 use write_pieces::operand::put_operand;
 use write_pieces::{put_byte, put_bytes, put_ended, put_word};
 
-pub fn put_type(file: &[u8], out: &mut [u8], at: usize, t: TypeDescriptor) -> usize
-    requires { (length file.now ≤ size_limit) × Ready (type_line (type_shown file.now t)).parts at out.old }
-    ensures { Laid (type_line (type_shown file.now t)).parts at out.old result out.new }
+pub fn put_type(file: File, out: &mut [u8], at: usize, t: TypeDescriptor) -> usize
+    requires { Ready (type_line (type_shown file.bytes.now t)).parts at out.old }
+    ensures { Laid (type_line (type_shown file.entry.bytes.now t)).parts at out.old result out.new }
 {
-    let map = name(file, t.map);
+    let map = name(file.bytes, t.map);
     let a = put_operand(out, at, t.id);
     let b = put_operand(out, a, t.size);
     let c = put_operand(out, b, map.len() as i32);
@@ -42,8 +40,7 @@ pub fn put_item(file: &[u8], out: &mut [u8], at: usize, d: DataItem) -> usize
     requires { Ready (item_line (item_shown file.now d)).parts at out.old }
     ensures { Laid (item_line (item_shown file.now d)).parts at out.old result out.new }
 {
-    let kind = d.kind;
-    let a = put_code(out, at, kind_number(kind), d.count);
+    let a = put_code(out, at, d.kind.into(), d.count);
     let b = put_operand(out, a, d.offset);
     put_bytes(out, b, name(file, d.value))
 }

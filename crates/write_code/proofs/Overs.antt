@@ -7,7 +7,7 @@ use mathlib.Core.List.{List, [], ◌∷◌, ◌++◌, append-nil, append_assoc}
 use mathlib.Core.Option.{none}
 use native.Mathlib.Nat.{mod-eq_of_lt}
 use native.Mathlib.Omega.{arith}
-use borrow.Author.Tests.{le-ltb, lt-ltb, ltb-true, ltb-false}
+use borrow.Author.Tests.{ltb-true, ltb-false}
 use lib.Bits.{bit_and, bit_or, and_mask, or_shifted}
 use lib.Dec.{leb, ltb}
 use lib.IntN.{ℤ, pos, negsuc}
@@ -117,17 +117,7 @@ module _ (v : ℤ) (u : ℕ) (is : u ≡ bits_of (2 ^ 31) v) where
       let b : u % 1073741824 ≡ bits_of (2 ^ 29) v = ap (λ (n : ℕ). n % 1073741824) is ∙ low_twenty_nine v h in
       record { junk = []; front = rw (encode-four v l, append-nil) (four_are (omega (arith, b)) (omega (arith, b)) (omega (arith, b)) (omega (arith, b))) }
 
--- by three constants each, chosen by the size of v
-
-module _ {A : Type 0} (x y z : A) (n : ℕ) where
-  pub pick_one : n < 64 → x ≡ cond (ltb n 64) x (cond (ltb n 8192) y z)
-  pick_one h = rw (lt-ltb n 64 h)
-
-  pub pick_two : 64 ≤ n → n < 8192 → y ≡ cond (ltb n 64) x (cond (ltb n 8192) y z)
-  pick_two l h = rw (le-ltb n 64 l, lt-ltb n 8192 h)
-
-  pub pick_three : 8192 ≤ n → z ≡ cond (ltb n 64) x (cond (ltb n 8192) y z)
-  pick_three l = rw (le-ltb n 64 (omega arith), le-ltb n 8192 l)
+-- by three constants, chosen by the size of v
 
 pub record Joined (v : ℤ) (u mask shift tag : ℕ) : Type 0 where
   pub near : shift < 32

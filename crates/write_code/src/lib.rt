@@ -10,6 +10,7 @@ ghost use Rattle.format.specs.WellFormed.{word};
 ghost use Rattle.table_pieces.specs.Bytes.{byte_of};
 
 // A word that is known to be an opcode or a mode.
+#[tactic(auto, using(crate::proofs::Sizes::byte_is, crate::proofs::Sizes::number_is))]
 fn byte_there(words: &[i32], w: usize) -> u8
     requires { (w < length words.now) × (byte_of (word words.now w) < 255) }
     ensures { result ≡ byte_of (word words.now w) }

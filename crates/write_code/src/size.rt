@@ -7,7 +7,6 @@ ghost use Rattle.write_code.specs.There.{used_registers, used_middle, registers_
 
 use crate::byte_there;
 use bits::magnitude;
-use table_code::both;
 
 fn is_narrow(v: i32) -> bool
     ensures { result ≡ in30bits v }
@@ -19,6 +18,7 @@ fn is_narrow(v: i32) -> bool
 }
 
 // What the shortest form has over one byte: 0 for a register that is not used.
+#[tactic(auto, using(crate::proofs::Sizes::more_none, crate::proofs::Sizes::more_one, crate::proofs::Sizes::more_three))]
 pub fn more(v: i32) -> usize
     ensures { result + 1 ≡ length (encode_operand v) }
 {
@@ -34,7 +34,7 @@ fn narrow_registers(words: &[i32], w: usize) -> bool
     requires { GoodOperand words.now w }
     ensures { result ≡ is_none (first_wide (registers_there words.now w)) }
 {
-    both(is_narrow(words[w + 1]), is_narrow(words[w + 2]))
+    is_narrow(words[w + 1]) & is_narrow(words[w + 2])
 }
 
 fn narrow_middle(words: &[i32], w: usize) -> bool
@@ -44,6 +44,7 @@ fn narrow_middle(words: &[i32], w: usize) -> bool
     is_narrow(words[w + 1])
 }
 
+#[tactic(auto, using(crate::proofs::Sizes::used_one, crate::proofs::Sizes::used_none, crate::proofs::Sizes::used_two))]
 pub fn used_registers(mode: u8) -> usize
     ensures { result ≡ used_registers mode }
 {
@@ -54,6 +55,7 @@ pub fn used_registers(mode: u8) -> usize
     }
 }
 
+#[tactic(auto, using(crate::proofs::Sizes::middle_unused, crate::proofs::Sizes::middle_used))]
 pub fn used_middle(mode: u8) -> usize
     ensures { result ≡ used_middle mode }
 {
@@ -77,6 +79,7 @@ fn middle_size(words: &[i32], w: usize) -> usize
     used_middle(byte_there(words, w)) + more(words[w + 1])
 }
 
+#[tactic(auto, using(crate::proofs::Sizes::parts_narrow))]
 fn narrow_there(words: &[i32], w: usize) -> bool
     requires { GoodWords words.now w }
     ensures { result ≡ is_none (first_wide (parts_there words.now w)) }
@@ -84,10 +87,11 @@ fn narrow_there(words: &[i32], w: usize) -> bool
     let middle = narrow_middle(words, w + 4);
     let source = narrow_registers(words, w + 1);
     let destination = narrow_registers(words, w + 6);
-    both(both(middle, source), destination)
+    middle & source & destination
 }
 
 // 0 where an operand is too wide.
+#[tactic(auto, using(crate::proofs::Sizes::parts_long, crate::proofs::Sizes::size_narrow, crate::proofs::Sizes::size_wide, crate::proofs::Sizes::middle_most, crate::proofs::Sizes::registers_most))]
 pub fn size_there(words: &[i32], w: usize) -> usize
     requires { GoodWords words.now w }
     ensures { result ≡ narrow_len (parts_there words.now w) }

@@ -14,56 +14,53 @@ use crate::size::{more, used_middle, used_registers};
 use bits::{bits_of, magnitude};
 use write_pieces::{put_bits, put_byte};
 
-// What the bits of a form are masked by, how far they stand from the end of four bytes, and what stands above them: constants, so that none of
-// them is a branch.
-fn mask_of(n: u32) -> u32
-    ensures { result ≡ mask_of n }
-{
-    match n {
-        0..=0x3F => 0x7F,
-        0x40..=0x1FFF => 0x3FFF,
-        0x2000..=0xFFFF_FFFF => 0x3FFF_FFFF,
-    }
+// A form at the front of four bytes: what its bits are masked by, how far they stand from the end, and what stands above them.
+#[derive(Clone, Copy)]
+struct Form {
+    mask: u32,
+    shift: u32,
+    tag: u32,
 }
 
-fn shift_of(n: u32) -> u32
-    ensures { result ≡ shift_of n }
+// Constants, so that none of them is a branch.
+fn form_of(n: u32) -> Form
+    ensures { (result.mask ≡ mask_of n) × (result.shift ≡ shift_of n) × (result.tag ≡ tag_of n) }
 {
     match n {
-        0..=0x3F => 24,
-        0x40..=0x1FFF => 16,
-        0x2000..=0xFFFF_FFFF => 0,
-    }
-}
-
-fn tag_of(n: u32) -> u32
-    ensures { result ≡ tag_of n }
-{
-    match n {
-        0..=0x3F => 0,
-        0x40..=0x1FFF => 0x8000_0000,
-        0x2000..=0xFFFF_FFFF => 0xC000_0000,
+        0..=0x3F => Form {
+            mask: 0x7F,
+            shift: 24,
+            tag: 0,
+        },
+        0x40..=0x1FFF => Form {
+            mask: 0x3FFF,
+            shift: 16,
+            tag: 0x8000_0000,
+        },
+        0x2000..=0xFFFF_FFFF => Form {
+            mask: 0x3FFF_FFFF,
+            shift: 0,
+            tag: 0xC000_0000,
+        },
     }
 }
 
 // The shortest form of v, at the front of four bytes.
-fn form_of(v: i32) -> u32
+#[tactic(auto, using(crate::proofs::Overs::joined))]
+fn formed(v: i32) -> u32
     requires { mag v < 2 ^ 29 }
     ensures { Formed v result }
 {
     let u = bits_of(0x8000_0000, v);
-    let n = magnitude(v);
-    let mask = mask_of(n);
-    let shift = shift_of(n);
-    let tag = tag_of(n);
-    tag | ((u & mask) << shift)
+    let form = form_of(magnitude(v));
+    form.tag | ((u & form.mask) << form.shift)
 }
 
 fn put_slot(out: &mut [u8], at: usize, v: i32, used: bool) -> usize
     requires { (mag v < 2 ^ 29) × (at + 4 ≤ length out.old) }
     ensures { Over (cond used (encode_operand v) []) at out.old result out.new }
 {
-    put_bits(out, at, form_of(v));
+    put_bits(out, at, formed(v));
     if used { at + 1 + more(v) } else { at }
 }
 

@@ -1,15 +1,15 @@
 -- What is written for a row: its line, the bytes of its parts, the first operand that no form holds, and how long its parts are.
+use Rattle.std.specs.Prelude as P
 use Rattle.std.specs.Prelude.{ℕ, ◌+◌, ◌≤◌, Bool, false, cond, ◌&&◌, List, [], ◌∷◌, ◌≡◌, leb, ℤ, pos, negsuc, length}
 use Rattle.std.proofs.Math.Option.{Option, none, some}
 use Rattle.format.specs.Operands.{in30bits, operand_len}
 use Rattle.format.specs.Records.{size_limit}
 use Rattle.format.specs.Content.{type_shown, item_shown, export_shown, function_shown, case_shown}
+use Rattle.format.specs.Views.{maybe}
 use Rattle.format.specs.Words.{flatten}
 use Rattle.format.specs.Writing.{Part, part_bytes, operand, raw, Line, code_parts, instruction_line, type_line, item_line, export_line, function_line, case_line}
 use Rattle.rows.specs.Row.{Row}
 use Rattle.rows.specs.Row as R
-use Rattle.write_lines.specs.declared.wide.Wide.{Wide}
-use Rattle.write_lines.specs.declared.wide.Wide.TheVariants as W
 
 abbrev pub row_line : List ℕ → Row → Line
 row_line file (R.instruction i) = instruction_line i
@@ -23,10 +23,6 @@ abbrev pub bytes_of : List Part → List ℕ
 bytes_of ps = flatten part_bytes ps
 
 -- ---- operands outside 30 bits
-
-abbrev pub wide_of : Wide → Option ℤ
-wide_of (W.Found v) = some v
-wide_of W.Nothing = none
 
 abbrev pub or_else : Option ℤ → Option ℤ → Option ℤ
 or_else none later = later
@@ -44,8 +40,8 @@ first_wide (raw bs ∷ ps) = first_wide ps
 first_wide (operand v ∷ ps) = or_else (wide_one v) (first_wide ps)
 
 -- whatever file its spans lie in
-abbrev pub WideIn : (List ℕ → Line) → Wide → Type 0
-WideIn line r = (file : List ℕ) → length file ≤ size_limit → wide_of r ≡ first_wide (line file).parts
+abbrev pub WideIn : (List ℕ → Line) → P.Option ℤ → Type 0
+WideIn line r = (file : List ℕ) → length file ≤ size_limit → maybe r ≡ first_wide (line file).parts
 
 -- ---- lengths: an operand outside 30 bits has none
 

@@ -1,95 +1,82 @@
 // Refusal 21: the first operand of a row, in writing order, that no form holds.
 ghost use Rattle.std.specs.Prelude.{◌≡◌};
 ghost use Rattle.format.specs.Content.{type_shown, item_shown, export_shown, case_shown};
+ghost use Rattle.format.specs.Views.{maybe};
 ghost use Rattle.format.specs.Writing.{registers, middle_register, instruction_line, type_line, item_line, export_line, case_line};
-ghost use Rattle.write_lines.specs.Lines.{wide_of, wide_one, wide_two, or_else, first_wide, WideIn};
+ghost use Rattle.write_lines.specs.Lines.{wide_one, wide_two, first_wide, WideIn};
 
 use format::instruction::{Instruction, MiddleOperand, Operand};
 use format::module::{DataItem, ExceptionCase, ExportEntry};
 use format::types::TypeDescriptor;
-use values::instruction::{middle_number, mode_number};
 use write_pieces::operand::operand_len;
 
-#[derive(Clone, Copy)]
-pub enum Wide {
-    Found(i32),
-    Nothing,
+#[tactic(auto, using(crate::proofs::Forms::no_form, crate::proofs::Forms::a_form))]
+fn wide_one(v: i32) -> Option<i32>
+    ensures { maybe result ≡ wide_one v }
+{
+    (operand_len(v) == 0).then_some(v)
 }
 
-fn wide_one(v: i32) -> Wide
-    ensures { wide_of result ≡ wide_one v }
+fn wide_two(a: i32, b: i32) -> Option<i32>
+    ensures { maybe result ≡ wide_two a b }
 {
-    if operand_len(v) == 0 {
-        return Wide::Found(v);
-    }
-    Wide::Nothing
+    wide_one(a).or(wide_one(b))
 }
 
-// The first of two, where it is one.
-fn either(first: Wide, second: Wide) -> Wide
-    ensures { wide_of result ≡ or_else (wide_of first) (wide_of second) }
+#[tactic(auto, using(crate::proofs::Forms::no_register, crate::proofs::Forms::one_register_lem, crate::proofs::Forms::two_registers_lem, crate::proofs::Forms::wide_none, crate::proofs::Forms::wide_only, crate::proofs::Forms::wide_both))]
+fn wide_registers(o: Operand) -> Option<i32>
+    ensures { maybe result ≡ first_wide (registers o) }
 {
-    match first {
-        Wide::Found(_) => first,
-        Wide::Nothing => second,
-    }
-}
-
-fn wide_two(a: i32, b: i32) -> Wide
-    ensures { wide_of result ≡ wide_two a b }
-{
-    either(wide_one(a), wide_one(b))
-}
-
-fn wide_registers(o: Operand) -> Wide
-    ensures { wide_of result ≡ first_wide (registers o) }
-{
-    let mode = o.mode;
-    match mode_number(mode) {
+    match u8::from(o.mode) {
         0..=2 => wide_one(o.register1),
-        3 => Wide::Nothing,
+        3 => None,
         4..=255 => wide_two(o.register1, o.register2),
     }
 }
 
-fn wide_middle(o: MiddleOperand) -> Wide
-    ensures { wide_of result ≡ first_wide (middle_register o) }
+#[tactic(auto, using(crate::proofs::Forms::no_middle, crate::proofs::Forms::one_middle, crate::proofs::Forms::wide_none, crate::proofs::Forms::wide_only))]
+fn wide_middle(o: MiddleOperand) -> Option<i32>
+    ensures { maybe result ≡ first_wide (middle_register o) }
 {
-    let mode = o.mode;
-    match middle_number(mode) {
-        0 => Wide::Nothing,
+    match u8::from(o.mode) {
+        0 => None,
         1..=255 => wide_one(o.register1),
     }
 }
 
-pub fn wide_instruction(i: Instruction) -> Wide
-    ensures { wide_of result ≡ first_wide (instruction_line i).parts }
+#[tactic(auto, using(crate::proofs::Forms::wide_instruction))]
+pub fn wide_instruction(i: Instruction) -> Option<i32>
+    ensures { maybe result ≡ first_wide (instruction_line i).parts }
 {
-    let front = either(wide_middle(i.middle), wide_registers(i.source));
-    either(front, wide_registers(i.destination))
+    wide_middle(i.middle)
+        .or(wide_registers(i.source))
+        .or(wide_registers(i.destination))
 }
 
 // A map's length is never wide.
-pub fn wide_type(t: TypeDescriptor) -> Wide
+#[tactic(auto, using(crate::proofs::Forms::shown_most, crate::proofs::Forms::wide_type))]
+pub fn wide_type(t: TypeDescriptor) -> Option<i32>
     ensures { WideIn (λ file. type_line (type_shown file t)) result }
 {
     wide_two(t.id, t.size)
 }
 
 // Nor is an inline count.
-pub fn wide_item(d: DataItem) -> Wide
+pub fn wide_item(d: DataItem) -> Option<i32>
     ensures { WideIn (λ file. item_line (item_shown file d)) result }
 {
     wide_two(d.count, d.offset)
 }
 
-pub fn wide_export(e: ExportEntry) -> Wide
+#[tactic(auto, using(crate::proofs::Forms::or_none), unfolding(crate::specs::Lines::first_wide))]
+pub fn wide_export(e: ExportEntry) -> Option<i32>
     ensures { WideIn (λ file. export_line (export_shown file e)) result }
 {
     wide_two(e.pc, e.frame)
 }
 
-pub fn wide_case(c: ExceptionCase) -> Wide
+#[tactic(auto, using(crate::proofs::Forms::or_none), unfolding(crate::specs::Lines::first_wide))]
+pub fn wide_case(c: ExceptionCase) -> Option<i32>
     ensures { WideIn (λ file. case_line (case_shown file c)) result }
 {
     wide_one(c.pc)

@@ -47,8 +47,8 @@ module _ {values : List ℤ} {from i size : ℕ} (k : Counting values from i siz
       most = omega (arith, k.most, len_most v);
     }
 
-    pub counted-wide : operand_len v ≡ 0 → (section width n w : ℕ) → measured n w (line section width (map operand values) ∷ []) ≡ refused (WideOperand section w v)
-    counted-wide e section width n w =
+    pub counted_wide : operand_len v ≡ 0 → (section width n w : ℕ) → measured n w (line section width (map operand values) ∷ []) ≡ refused (WideOperand section w v)
+    counted_wide e section width n w =
         line-wide n w (line section width (map operand values)) (parts_wide section w (map operand values) (first_here ∙ rw (no_form v e)))
 
   pub counted_all : length values ≤ i → (section width w : ℕ) → measured from w (line section width (map operand values) ∷ []) ≡ got size (w + width)

@@ -6,9 +6,11 @@ use mathlib.Core.List.{List, [], ◌∷◌, map}
 use native.Mathlib.Nat.{add-zero}
 use native.Mathlib.Omega.{arith}
 use lib.IntN.{ℤ}
+use Rattle.std.specs.Prelude.{Result, Ok, Err, IsErr}
+use Rattle.std.specs.Result.{IsErrAnd}
 use lib.ListN.{length, length-append}
 use Rattle.format.specs.Operands.{encode_operand}
-use Rattle.format.specs.Reading.{got, Reads, many}
+use Rattle.format.specs.Reading.{Step, got, refused, Reads, many}
 use Rattle.law_format.specs.Loops.{leading, reached, Whole}
 use Rattle.format.specs.Words.{flatten}
 use Rattle.format.specs.Writing.{operand, Line, line, part_bytes}
@@ -16,7 +18,7 @@ use Rattle.law_format.proofs.Many.{many_ind}
 use Rattle.law_format.proofs.OperandBack.{at_most_four}
 use Rattle.law_format.proofs.Whole.{whole-many}
 use Rattle.write_measure.specs.declared.Measured.{Measured}
-use Rattle.write_measure.specs.declared.Measured.TheVariants as MeasuredIs
+use Rattle.format.specs.declared.refusal.Refusal.{Refusal}
 use Rattle.write_measure.specs.Measured.{widths, measured, size_read, Grows}
 use Rattle.write_measure.proofs.Sizes.{widths-append, measured-told}
 
@@ -30,14 +32,19 @@ module _ (n w section width : ℕ) (vs : List ℤ) where
       let t = measured-told n w (line section width (map operand vs) ∷ []) e in
       (omega (arith, t.size, operands_most vs, length-append (flatten part_bytes (map operand vs)) []), omega (arith, t.next))
 
-  pub head_grows : (r : Measured) → size_read r ≡ measured n w (line section width (map operand vs) ∷ []) → 1 ≤ width → length vs ≤ 9 → Grows n w r
-  head_grows (MeasuredIs.Fits k q) e h l = let t = head_told (sym e) in omega (arith, t.0, t.1)
-  head_grows (MeasuredIs.Wide why) e h l = tt
+  pub head_grows : (r : Result Measured Refusal) → size_read r ≡ measured n w (line section width (map operand vs) ∷ []) → 1 ≤ width → length vs ≤ 9 → Grows n w r
+  head_grows (Ok m) e h l = let t = head_told (sym e) in omega (arith, t.0, t.1)
+  head_grows (Err why) e h l = tt
 
 -- first some, then others
-pub grows_more : (n w m v : ℕ) (r : Measured) → m + 2 ^ 25 * w ≤ n + 2 ^ 25 * v → Grows m v r → Grows n w r
-grows_more n w m v (MeasuredIs.Fits k q) h g = omega (arith, h, g)
-grows_more n w m v (MeasuredIs.Wide why) h g = tt
+pub grows_more : (n w m v : ℕ) (r : Result Measured Refusal) → m + 2 ^ 25 * w ≤ n + 2 ^ 25 * v → Grows m v r → Grows n w r
+grows_more n w m v (Ok r) h g = omega (arith, h, g)
+grows_more n w m v (Err why) h g = tt
+
+-- a refusal that is handed on
+pub handed : (n w : ℕ) (r : Result Measured Refusal) {why : Refusal} {s : Step ℕ ℕ} → IsErr r × IsErrAnd r (λ y. y ≡ why) → refused why ≡ s → (size_read r ≡ s) × Grows n w r
+handed n w (Ok m) i e = absurd i.1
+handed n w (Err y) i e = (rw i.1 e, tt)
 
 -- ---- where records end, by their lines
 

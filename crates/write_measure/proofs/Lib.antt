@@ -5,6 +5,7 @@ pub mod Ends
 pub mod Facts
 pub mod Grouped
 pub mod Growth
+pub mod InOrder
 pub mod Placed
 pub mod Rowed
 pub mod Sizes

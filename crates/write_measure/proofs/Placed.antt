@@ -79,8 +79,8 @@ module _ (file : List ℕ) (words : List ℤ) (group : Group) (flags : ℤ) wher
   section_on n w e h = rw (e, many-length (group_from file words group) n w (whole-many (group_from file words group) n w h))
 
   -- without its flag it has no record
-  pub section_none : {n w end : ℕ} → SectionIs file words group flags n w end → flag_of group flags ≡ false → end ≡ w
-  section_none {n} {w} i e = i.ends ∙ reached-done (group_from file words group) n w (⊎_elim (λ t. no_way (sym t ∙ e)) (λ z. z) i.allowed)
+  pub section_none : {n w : ℕ} → SectionIs file words group flags n w → flag_of group flags ≡ false → reached (group_from file words group) n w ≡ w
+  section_none {n} {w} i e = reached-done (group_from file words group) n w (⊎_elim (λ t. no_way (sym t ∙ e)) (λ z. z) i.allowed)
     where
       no_way : true ≡ false → n ≡ 0
       no_way t = let z : ◌≡◌ {A = ℕ} 0 1 = ap (λ b. cond b 0 1) t in absurd (omega arith)

@@ -123,9 +123,9 @@ module _ {A : Type 0} (lines : A → List Line) (read : Reads ℕ A) where
       pub wide : {r : Refusal} → measured size here (lines x) ≡ refused r → refused r ≡ measured from w (run n w)
       wide f = sym (ap (λ s. and_then s (λ k v. measured k v (run (left - 1) next))) f) ∙ sym apart ∙ m.holds
 
-      pub turn : {k : ℕ} → measured size here (lines x) ≡ got k next → k + 2 ^ 25 * here ≤ size + 2 ^ 25 * next → Measuring n w from (left - 1) next k
-      turn {k} f g = record {
+      pub turn : {k rest : ℕ} → rest + 1 ≡ left → measured size here (lines x) ≡ got k next → k + 2 ^ 25 * here ≤ size + 2 ^ 25 * next → Measuring n w from rest next k
+      turn {k} {rest} l f g = let back : rest ≡ left - 1 = omega (arith, l) in rw back (record {
         holds = sym (ap (λ s. and_then s (λ k v. measured k v (run (left - 1) next))) f) ∙ sym apart ∙ m.holds;
         grown = omega (arith, m.grown);
         all = whole_next read left here m.all more e;
-      }
+      })

@@ -1,9 +1,9 @@
 -- The lines of a module whose tables are lent, section after section, each from the word where it begins.
-use Rattle.std.specs.Prelude.{ℕ, ◌^◌, ◌≤◌, ◌<◌, ◌≡◌, true, ◌⊎◌, List, [], ◌∷◌, ◌++◌, ℤ, length}
+use Rattle.std.specs.Prelude.{ℕ, ◌^◌, ◌≤◌, ◌<◌, ◌≡◌, true, ◌⊎◌, List, [], ◌∷◌, ◌++◌, ℤ}
 use Rattle.format.specs.declared.module.Module.{Module}
 use Rattle.format.specs.Reading.{many}
-use Rattle.law_format.specs.Loops.{leading, reached, Whole}
-use Rattle.format.specs.Records.{size_limit, word_limit}
+use Rattle.law_format.specs.Loops.{leading, Whole}
+use Rattle.format.specs.Records.{word_limit}
 use Rattle.format.specs.Words.{flatten}
 use Rattle.format.specs.Operands.{shown}
 use Rattle.format.specs.Content.{numbers_of}
@@ -41,14 +41,11 @@ module _ (file : List ℕ) (words : List ℤ) where
   abbrev pub groups_at : Group → ℤ → ℕ → ℕ → List Line
   groups_at group flags n w = section_lines file group flags (leading (group_from file words group) n w)
 
-  -- n groups from one word up to another, that refusal 23 spares
-  pub record SectionIs (group : Group) (flags : ℤ) (n w end : ℕ) : Type 0 where
-    pub small : length file ≤ size_limit
+  -- n groups from a word on, that refusal 23 spares
+  pub record SectionIs (group : Group) (flags : ℤ) (n w : ℕ) : Type 0 where
     pub few : n < 2 ^ 31
-    pub low : end ≤ word_limit
     pub begins : w ≤ word_limit
     pub all : Whole (many (group_from file words group) n w)
-    pub ends : end ≡ reached (group_from file words group) n w
     pub allowed : Allowed group flags n
 
   -- left to right, as the code goes

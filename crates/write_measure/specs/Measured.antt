@@ -1,9 +1,9 @@
 -- How many bytes lines are written in, one after the other: the size so far and the word where the next record begins, or refusal 21.
-use Rattle.std.specs.Prelude.{ℕ, ◌+◌, ◌*◌, ◌^◌, ◌≤◌, ◌≡◌, List, [], ◌∷◌, map, ℤ, length}
+use Rattle.std.specs.Prelude.{ℕ, ◌+◌, ◌*◌, ◌^◌, ◌≤◌, ◌≡◌, List, [], ◌∷◌, map, ℤ, length, Result, Ok, Err}
 use Rattle.std.proofs.Math.Option.{Option, none, some}
 use Rattle.format.specs.declared.module.ExceptionCase.{ExceptionCase}
 use Rattle.format.specs.declared.refusal.Refusal.{Refusal}
-use Rattle.format.specs.Reading.{Step, got, refused, and_then}
+use Rattle.format.specs.Reading.{Step, got, refused}
 use Rattle.law_format.specs.Loops.{total}
 use Rattle.format.specs.Words.{flatten, case_width}
 use Rattle.format.specs.Content.{function_shown, handler_shown}
@@ -13,7 +13,6 @@ use Rattle.rows.specs.declared.groups.Group.{Group}
 use Rattle.rows.specs.Groups.{Grouped, imports, handled, bit_of, section_of}
 use Rattle.write_lines.specs.Lines.{row_line}
 use Rattle.write_measure.specs.declared.Measured.{Measured}
-use Rattle.write_measure.specs.declared.Measured.TheVariants as MeasuredIs
 
 abbrev pub widths : List Line → ℕ
 widths ls = total (λ l. l.width) ls
@@ -48,21 +47,21 @@ section_lines file group flags gs = flagged (bit_of group) flags (section_of gro
 
 -- ---- the code's answer
 
-abbrev pub size_read : Measured → Step ℕ ℕ
-size_read (MeasuredIs.Fits size next) = got size next
-size_read (MeasuredIs.Wide why) = refused why
+abbrev pub size_read : Result Measured Refusal → Step ℕ ℕ
+size_read (Ok m) = got m.size m.next
+size_read (Err why) = refused why
 
 -- a word of a table is written in at most 2 ^ 25 bytes
-abbrev pub Grows : ℕ → ℕ → Measured → Type 0
-Grows n w (MeasuredIs.Fits size next) = size + 2 ^ 25 * w ≤ n + 2 ^ 25 * next
-Grows n w (MeasuredIs.Wide why) = Unit {0}
+abbrev pub Grows : ℕ → ℕ → Result Measured Refusal → Type 0
+Grows n w (Ok m) = m.size + 2 ^ 25 * w ≤ n + 2 ^ 25 * m.next
+Grows n w (Err why) = Unit {0}
 
--- the next record begins at w, and all before it is written in so many bytes and those of the table's words
-abbrev pub Sits : ℕ → ℕ → Measured → Type 0
-Sits k w (MeasuredIs.Fits size next) = (size ≤ k + 2 ^ 25 * w) × (next ≡ w)
-Sits k w (MeasuredIs.Wide why) = Unit {0}
+-- a word is written in at most 2 ^ 25 bytes, and there are so many more; the next record begins at v
+abbrev pub Sits : ℕ → ℕ → Measured → Result Measured Refusal → Type 0
+Sits more v from (Ok m) = (m.size + 2 ^ 25 * from.next ≤ from.size + more + 2 ^ 25 * m.next) × (m.next ≡ v)
+Sits more v from (Err why) = Unit {0}
 
--- some lines more, of the words from w to v and of so many other bytes
-pub record Follows (done : Measured) (ls : List Line) (more w v : ℕ) (r : Measured) : Type 0 where
-  pub sizes : size_read r ≡ and_then (size_read done) (λ m p. measured m p ls)
-  pub sits : (k : ℕ) → Sits k w done → Sits (k + more) v r
+-- some lines more, of the words up to v and of so many other bytes
+pub record Follows (from : Measured) (ls : List Line) (more v : ℕ) (r : Result Measured Refusal) : Type 0 where
+  pub sizes : size_read r ≡ measured from.size from.next ls
+  pub sits : Sits more v from r

@@ -3,11 +3,12 @@ use Rattle.std.specs.Prelude.{ℕ, List, [], ◌≡◌}
 use Rattle.std.proofs.Math.Option.{none}
 use Rattle.format.specs.declared.instruction.Instruction.{Instruction}
 use Rattle.format.specs.Reading.{Step, got, refused}
+use Rattle.format.specs.Views.{maybe}
 use Rattle.format.specs.Writing.{Part, instruction_line}
 use Rattle.rows.specs.declared.Kind.{Kind}
 use Rattle.rows.specs.declared.Kind.TheVariants as K
 use Rattle.rows.specs.Row.{Row}
-use Rattle.write_lines.specs.Lines.{row_line, wide_of, first_wide, parts_len}
+use Rattle.write_lines.specs.Lines.{row_line, first_wide, parts_len}
 use Rattle.write_measure.specs.declared.runs.RowSize.{RowSize}
 
 abbrev pub section_of : Kind → ℕ
@@ -28,5 +29,5 @@ code_in (got i next) = (instruction_line i).parts
 code_in (refused why) = []
 
 pub record SizeIs (ps : List Part) (r : RowSize) : Type 0 where
-  pub wide : wide_of r.wide ≡ first_wide ps
+  pub wide : maybe r.wide ≡ first_wide ps
   pub len : first_wide ps ≡ none → r.len ≡ parts_len ps

@@ -11,56 +11,58 @@ use format::module::{HANDLER_WIDTH, Handler, Header, XMAGIC};
 use format::refusal::Refusal;
 use write_pieces::operand::operand_len;
 
+#[tactic(auto, using(crate::proofs::Counted::counting, crate::proofs::Counted::counted, crate::proofs::Counted::counted_wide, crate::proofs::Counted::counted_all, write_lines::proofs::Forms::len_most))]
 pub fn measure_operands(
     values: &[i32],
     section: u8,
     width: usize,
-    w: usize,
-    from: usize,
-) -> Measured
-    requires { (length values.now ≤ 9) × (from < 2 ^ 62) × (w + width < 2 ^ 62) }
-    ensures { size_read result ≡ measured from w (line section width (map operand values.now) ∷ []) }
+    from: Measured,
+) -> Result<Measured, Refusal>
+    requires { (length values.now ≤ 9) × (from.size < 2 ^ 62) × (from.next + width < 2 ^ 62) }
+    ensures { size_read result ≡ measured from.size from.next (line section width (map operand values.now) ∷ []) }
 {
-    let mut size = from;
-    let mut i = 0;
-    while i < values.len() {
-        let value = values[i];
+    let mut size = from.size;
+    for &value in values {
         let len = operand_len(value);
         if len == 0 {
-            return Measured::Wide(Refusal::WideOperand {
+            return Err(Refusal::WideOperand {
                 section,
-                place: w,
+                place: from.next,
                 value,
             });
         }
         size += len;
-        i += 1;
     }
-    Measured::Fits {
+    Ok(Measured {
         size,
-        next: w + width,
-    }
+        next: from.next + width,
+    })
 }
 
-pub fn measure_one(value: i32, section: u8, width: usize, w: usize, from: usize) -> Measured
-    requires { (from < 2 ^ 62) × (w + width < 2 ^ 62) }
-    ensures { size_read result ≡ measured from w (one_line section width value ∷ []) }
+pub fn measure_one(
+    value: i32,
+    section: u8,
+    width: usize,
+    from: Measured,
+) -> Result<Measured, Refusal>
+    requires { (from.size < 2 ^ 62) × (from.next + width < 2 ^ 62) }
+    ensures { size_read result ≡ measured from.size from.next (one_line section width value ∷ []) }
 {
-    let values = [value];
-    measure_operands(&values, section, width, w, from)
+    measure_operands(&[value], section, width, from)
 }
 
 // A handler's packed count has the cases before the last.
-pub fn measure_head(h: Handler, w: usize, from: usize) -> Measured
-    requires { (from < 2 ^ 62) × (w < 2 ^ 61) × Cased h.cases }
-    ensures { size_read result ≡ measured from w (head_line h ∷ []) }
+#[tactic(auto, using(crate::proofs::Counted::one_less))]
+pub fn measure_head(h: Handler, from: Measured) -> Result<Measured, Refusal>
+    requires { (from.size < 2 ^ 62) × (from.next < 2 ^ 61) × Cased h.cases }
+    ensures { size_read result ≡ measured from.size from.next (head_line h ∷ []) }
 {
     let values = [h.offset, h.begin, h.end, h.descriptor, h.cases - 1];
-    measure_operands(&values, 8, HANDLER_WIDTH, w, from)
+    measure_operands(&values, 8, HANDLER_WIDTH, from)
 }
 
 // The plain magic, flags and the seven numbers.
-pub fn measure_header(h: Header) -> Measured
+pub fn measure_header(h: Header) -> Result<Measured, Refusal>
     ensures { size_read result ≡ measured 0 0 (header_line h.flags (numbers_of h) ∷ []) }
 {
     let values = [
@@ -74,5 +76,5 @@ pub fn measure_header(h: Header) -> Measured
         h.entry_pc,
         h.entry_type,
     ];
-    measure_operands(&values, 1, 0, 0, 0)
+    measure_operands(&values, 1, 0, Measured { size: 0, next: 0 })
 }

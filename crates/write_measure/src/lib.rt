@@ -6,11 +6,9 @@ mod heads;
 mod runs;
 pub mod whole;
 
-use format::refusal::Refusal;
-
 // The bytes so far and the word where the next record begins.
 #[derive(Clone, Copy)]
-pub enum Measured {
-    Fits { size: usize, next: usize },
-    Wide(Refusal),
+pub struct Measured {
+    pub size: usize,
+    pub next: usize,
 }

@@ -1,19 +1,20 @@
 // One row, and one loop for every run of rows of one kind.
 ghost use Rattle.std.specs.Prelude.{◌≡◌, ◌+◌, ◌^◌, ◌≤◌, ◌<◌, length};
 ghost use Rattle.format.specs.Reading.{many};
+ghost use Rattle.format.specs.Views.{maybe};
 ghost use Rattle.law_format.specs.Loops.{leading, Whole};
-ghost use Rattle.format.specs.Records.{size_limit};
 ghost use Rattle.format.specs.WellFormed.{instruction_from};
 ghost use Rattle.format.specs.Words.{flatten};
-ghost use Rattle.write_lines.specs.Lines.{wide_of, first_wide};
+ghost use Rattle.write_lines.specs.Lines.{first_wide};
 ghost use Rattle.table_rows.specs.Rows.{row_from};
 ghost use Rattle.write_measure.specs.Measured.{row_lines, measured, size_read, Grows};
 ghost use Rattle.write_measure.specs.Rows.{section_of, code_in, parts_in, SizeIs};
 
 use crate::Measured;
 use format::refusal::Refusal;
+use format::types::File;
 use rows::Kind;
-use table_code::{InstructionFrom, instruction_from};
+use table_code::instruction_from;
 use table_data::item_there;
 use table_handlers::case_there;
 use table_names::{export_there, function_there};
@@ -21,12 +22,12 @@ use table_rows::row_width;
 use table_types::type_there;
 use write_code::size::size_there;
 use write_lines::length::{case_len, export_len, function_len, item_len, type_len};
-use write_lines::wide::{Wide, wide_case, wide_export, wide_instruction, wide_item, wide_type};
+use write_lines::wide::{wide_case, wide_export, wide_instruction, wide_item, wide_type};
 
 // What is measured of a row: the first operand that no form holds, and where there is none, how long its line is.
 #[derive(Clone, Copy)]
 struct RowSize {
-    wide: Wide,
+    wide: Option<i32>,
     len: usize,
 }
 
@@ -43,13 +44,11 @@ fn section_of(kind: Kind) -> u8
     }
 }
 
-fn wide_code(words: &[i32], w: usize) -> Wide
-    ensures { wide_of result ≡ first_wide (code_in (instruction_from words.now w)) }
+#[tactic(auto, using(write_lines::proofs::Forms::wide_none))]
+fn wide_code(words: &[i32], w: usize) -> Option<i32>
+    ensures { maybe result ≡ first_wide (code_in (instruction_from words.now w)) }
 {
-    match instruction_from(words, w) {
-        InstructionFrom::Bad => Wide::Nothing,
-        InstructionFrom::Got(instruction) => wide_instruction(instruction),
-    }
+    wide_instruction(instruction_from(words, w)?)
 }
 
 // Where no operand is wide, no record is built.
@@ -64,16 +63,13 @@ fn code_size(words: &[i32], w: usize) -> RowSize
             len,
         };
     }
-    RowSize {
-        wide: Wide::Nothing,
-        len,
-    }
+    RowSize { wide: None, len }
 }
 
 // A row that is known to be good: names are not looked at again, nor the ones of a map counted.
-fn row_size(file: &[u8], words: &[i32], kind: Kind, w: usize) -> RowSize
-    requires { (length file.now ≤ size_limit) × Whole (row_from file.now words.now kind w) }
-    ensures { SizeIs (parts_in file.now (row_from file.now words.now kind w)) result }
+fn row_size(file: File, words: &[i32], kind: Kind, w: usize) -> RowSize
+    requires { Whole (row_from file.bytes.now words.now kind w) }
+    ensures { SizeIs (parts_in file.entry.bytes.now (row_from file.entry.bytes.now words.now kind w)) result }
 {
     match kind {
         Kind::Code => code_size(words, w),
@@ -99,7 +95,7 @@ fn row_size(file: &[u8], words: &[i32], kind: Kind, w: usize) -> RowSize
             }
         }
         Kind::Functions => RowSize {
-            wide: Wide::Nothing,
+            wide: None,
             len: function_len(file, function_there(words, w)),
         },
         Kind::Cases => {
@@ -112,38 +108,30 @@ fn row_size(file: &[u8], words: &[i32], kind: Kind, w: usize) -> RowSize
     }
 }
 
+#[tactic(auto, using(crate::proofs::Sizes::measuring, crate::proofs::Rowed::turn_whole, crate::proofs::Rowed::turn_limit, crate::proofs::Rowed::row_stops, crate::proofs::Rowed::row_turn, crate::proofs::Sizes::done))]
 pub fn measure_rows(
-    file: &[u8],
+    file: File,
     words: &[i32],
     kind: Kind,
     n: usize,
-    w: usize,
-    from: usize,
-) -> Measured
-    requires { (length file.now ≤ size_limit) × (from < 2 ^ 62) × Whole (many (row_from file.now words.now kind) n w) }
-    ensures { (size_read result ≡ measured from w (flatten (row_lines file.now) (leading (row_from file.now words.now kind) n w))) × Grows from w result }
+    from: Measured,
+) -> Result<Measured, Refusal>
+    requires { (from.size < 2 ^ 62) × Whole (many (row_from file.bytes.now words.now kind) n from.next) }
+    ensures { (size_read result ≡ measured from.size from.next (flatten (row_lines file.entry.bytes.now) (leading (row_from file.entry.bytes.now words.now kind) n from.next))) × Grows from.size from.next result }
 {
     let width = row_width(kind);
-    let mut size = from;
-    let mut here = w;
-    let mut left = n;
-    while 0 < left {
-        let row = row_size(file, words, kind, here);
-        let wide = row.wide;
-        match wide {
-            Wide::Found(value) => {
-                return Measured::Wide(Refusal::WideOperand {
-                    section: section_of(kind),
-                    place: here,
-                    value,
-                });
-            }
-            Wide::Nothing => {
-                size += row.len;
-            }
+    let mut done = from;
+    for _ in 0..n {
+        let row = row_size(file, words, kind, done.next);
+        if let Some(value) = row.wide {
+            return Err(Refusal::WideOperand {
+                section: section_of(kind),
+                place: done.next,
+                value,
+            });
         }
-        here += width;
-        left -= 1;
+        done.size += row.len;
+        done.next += width;
     }
-    Measured::Fits { size, next: here }
+    Ok(done)
 }

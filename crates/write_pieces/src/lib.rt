@@ -9,6 +9,7 @@ ghost use Rattle.format.specs.Put.{put};
 
 use bits::{bits_of, low};
 
+#[tactic(auto, using(law_format::proofs::Put::put_one))]
 pub fn put_byte(out: &mut [u8], at: usize, b: u8) -> usize
     requires { at + 1 ≤ length out.old }
     ensures { (result ≡ at + 1) × (out.new ≡ put at (b ∷ []) out.old) }
@@ -17,19 +18,18 @@ pub fn put_byte(out: &mut [u8], at: usize, b: u8) -> usize
     at + 1
 }
 
+#[tactic(auto, using(crate::proofs::Parts::put_part))]
 pub fn put_bytes(out: &mut [u8], at: usize, bytes: &[u8]) -> usize
     requires { at + length bytes.now ≤ length out.old }
     ensures { (result ≡ at + length bytes.now) × (out.new ≡ put at bytes.now out.old) }
 {
-    let mut i = 0;
-    while i < bytes.len() {
-        out[at + i] = bytes[i];
-        i += 1;
-    }
-    at + bytes.len()
+    let end = at + bytes.len();
+    out[at..end].copy_from_slice(bytes);
+    end
 }
 
 // A name and its zero byte.
+#[tactic(auto, using(crate::proofs::Parts::length_ended, crate::proofs::Parts::put_last))]
 pub fn put_ended(out: &mut [u8], at: usize, name: &[u8]) -> usize
     requires { at + length (name.now ++ 0 ∷ []) ≤ length out.old }
     ensures { (result ≡ at + length (name.now ++ 0 ∷ [])) × (out.new ≡ put at (name.now ++ 0 ∷ []) out.old) }
@@ -39,6 +39,7 @@ pub fn put_ended(out: &mut [u8], at: usize, name: &[u8]) -> usize
 }
 
 // Four bytes of a number, the most significant first.
+#[tactic(auto, using(law_format::proofs::Put::put_four))]
 pub fn put_bits(out: &mut [u8], at: usize, u: u32)
     requires { at + 4 ≤ length out.old }
     ensures { out.new ≡ put at (four_bytes u) out.old }
@@ -49,6 +50,7 @@ pub fn put_bits(out: &mut [u8], at: usize, u: u32)
     out[at + 3] = low(u);
 }
 
+#[tactic(auto, using(law_format::proofs::OperandBack::length_word), unfolding(format::specs::Operands::encode_word))]
 pub fn put_word(out: &mut [u8], at: usize, v: i32) -> usize
     requires { at + length (encode_word v) ≤ length out.old }
     ensures { (result ≡ at + length (encode_word v)) × (out.new ≡ put at (encode_word v) out.old) }

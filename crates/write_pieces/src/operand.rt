@@ -7,6 +7,7 @@ ghost use Rattle.format.specs.Put.{put};
 use bits::{bits_of, low, magnitude, tagged};
 
 // How many bytes the shortest form of v has; 0 where no form holds v.
+#[tactic(auto, using(law_format::proofs::OperandCases::len_one, law_format::proofs::OperandCases::len_two, law_format::proofs::OperandCases::len_four, law_format::proofs::OperandCases::len_none))]
 pub fn operand_len(v: i32) -> usize
     ensures { result ≡ operand_len v }
 {
@@ -19,6 +20,7 @@ pub fn operand_len(v: i32) -> usize
 }
 
 // u in two bytes, with the form in the top two bits.
+#[tactic(auto, using(law_format::proofs::Put::put_two))]
 fn put_two(out: &mut [u8], at: usize, u: u32)
     requires { (u < 2 ^ 14) × (at + 2 ≤ length out.old) }
     ensures { out.new ≡ put at (two_bytes (2 * 2 ^ 14 + u)) out.old }
@@ -27,6 +29,7 @@ fn put_two(out: &mut [u8], at: usize, u: u32)
     out[at + 1] = low(u);
 }
 
+#[tactic(auto, using(law_format::proofs::Put::put_four))]
 fn put_four(out: &mut [u8], at: usize, u: u32)
     requires { (u < 2 ^ 30) × (at + 4 ≤ length out.old) }
     ensures { out.new ≡ put at (four_bytes (3 * 2 ^ 30 + u)) out.old }
@@ -38,6 +41,7 @@ fn put_four(out: &mut [u8], at: usize, u: u32)
 }
 
 // The shortest form of v, written at a place; the place past it.
+#[tactic(auto, using(law_format::proofs::OperandCases::encode_one, law_format::proofs::OperandCases::encode_two, crate::proofs::Parts::encode_four, law_format::proofs::OperandCases::bits_lt, law_format::proofs::Put::put_one))]
 pub fn put_operand(out: &mut [u8], at: usize, v: i32) -> usize
     requires { (mag v < 2 ^ 29) × (at + length (encode_operand v) ≤ length out.old) }
     ensures { (result ≡ at + length (encode_operand v)) × (out.new ≡ put at (encode_operand v) out.old) }

@@ -1,13 +1,10 @@
--- The invariant: the first zero byte from `i` on is the first from the start on.
+-- The invariant: the first zero byte from `at` on is the first from the start on.
 use mathlib.Core.Path.{◌≡◌}
-use lib.ListN.{length, drop}
+use lib.ListN.{drop}
 use Rattle.format.specs.Operands.{zero_in}
 use Rattle.law_format.proofs.Names.{further}
 use Prim.Native.Nat.{◌≤◌, ◌-◌}
 use Rattle.reader.proofs.read_name.Given as goal
 
-abbrev pub invariant-loop-i : goal.invariant-loop-i
-invariant-loop-i l = (l.start ≤ l.i) × (further (l.i - l.start) (zero_in (drop l.i l.file)) ≡ zero_in (drop l.start l.file))
-
-abbrev pub decreases-loop-i : goal.decreases-loop-i
-decreases-loop-i l = length l.file - l.i
+abbrev pub invariant-loop-at : goal.invariant-loop-at
+invariant-loop-at l = record { after : l.start ≤ l.at; same : further (l.at - l.start) (zero_in (drop l.at l.file)) ≡ zero_in (drop l.start l.file) }

@@ -3,7 +3,7 @@ use lib.IntN.{pos}
 use Rattle.bits.proofs.Signs.{natural_is, natural_not, passed}
 use Rattle.law_format.proofs.Names.{before_file, no_length, span_is}
 use Rattle.spans.proofs.Outside.{part_outside}
-use Rattle.spans.proofs.name.Goals.{In-Is}
+use Rattle.spans.proofs.name.Goals.{In-Some}
 use Rattle.spans.proofs.name.Goals as goal
 
 pub returns-in_default : goal.returns-in_default
@@ -12,17 +12,17 @@ returns-in_default c =
     part_outside (before_file a.file.now a.span (natural_not _ (passed a.span.start c.struct_told-1.given.0.1 c.as_natural.ensures c.in_default.is))) refl refl
 
 -- the start is a place
-module _ (c : In-Is) where
-  start_is : c.args.span.start ≡ pos c.in-Is.from
+module _ (c : In-Some) where
+  start_is : c.args.span.start ≡ pos c.in-Some.from
   start_is =
-      natural_is _ (passed c.args.span.start c.type_inv.span.0.1 c.as_natural.ensures c.in-Is.is)
+      natural_is _ (passed c.args.span.start c.type_inv.span.0.1 c.as_natural.ensures c.in-Some.is)
 
 pub returns-in_default-as_natural : goal.returns-in_default-as_natural
 returns-in_default-as_natural c =
     let a = c.args in
-    part_outside (no_length a.file.now a.span (start_is (goal.at.returns-in_default-as_natural c).In-Is) (natural_not _ (passed a.span.len c.struct_told-2-1.given.1.0.1 c.as_natural-2.ensures c.in_default-as_natural.is))) refl refl
+    part_outside (no_length a.file.now a.span (start_is (goal.at.returns-in_default-as_natural c).In-Some) (natural_not _ (passed a.span.len c.struct_told-2-1.given.1.0.1 c.as_natural-2.ensures c.in_default-as_natural.is))) refl refl
 
 pub returns : goal.returns
 returns c =
     let span = c.args.span in
-    rw (span_is span (start_is (goal.at.returns c).In-Is) (natural_is _ (passed span.len c.struct_told-2-1.given.1.0.1 c.as_natural-2.ensures c.in-Is-as_natural.is))) c.part.ensures
+    rw (span_is span (start_is (goal.at.returns c).In-Some) (natural_is _ (passed span.len c.struct_told-2-1.given.1.0.1 c.as_natural-2.ensures c.in-Some-as_natural.is))) c.part.ensures

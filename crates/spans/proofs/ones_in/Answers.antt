@@ -1,25 +1,20 @@
 use native.Mathlib.Omega.{arith}
-use native.Mathlib.Nat.{zero-add, add-sub_cancel_left, min-le_left, le_trans}
-use lib.ListN.{length-take}
-use Rattle.law_format.proofs.Names.{ones_part, ones_rest}
-use Prim.Native.Nat.{◌-◌}
+use Rattle.spans.proofs.Ones.{ones_bound, ones_taken, ones_none}
 use Rattle.spans.proofs.ones_in.Goals as goal
 
-pub loop-from-init : goal.loop-from-init
-loop-from-init c = (omega arith, omega arith, zero-add _)
+pub overflow_add-ones : goal.overflow_add-ones
+overflow_add-ones c =
+    let taken = ones_taken c.in-Some.few.now c.next.new.self.rest.now c.in-Some.ensures.steps.1.0 in
+    let bound = ones_bound c.args.map.now (λ i. (c.type_inv.map i).fits) in
+    record { fits = omega (arith, taken, bound, c.loop-few.invariant.all, c.ones_in_few.ensures, c.from-ones.ensures, c.requires) }
 
-pub ones_in_few-requires : goal.ones_in_few-requires
-ones_in_few-requires c = rw (add-sub_cancel_left, length-take 8000 _) (min-le_left 8000 _)
-
-pub loop-from-preserved : goal.loop-from-preserved
-loop-from-preserved c =
-    let l = c.loop-from in
-    (omega arith, omega arith, omega (arith, ones_part c.args.map.now l.from 8000 c.ones_in_few.ensures, l.invariant.2))
-
-pub ones_in_few-requires-2 : goal.ones_in_few-requires-2
-ones_in_few-requires-2 c = rw (length-take _ _) (le_trans (min-le_left _ _) (omega arith))
+pub loop-few-preserved : goal.loop-few-preserved
+loop-few-preserved c =
+    let s = c.in-Some.ensures.steps in
+    record {
+      size = omega (arith, s.0, c.loop-few.invariant.size);
+      all = omega (arith, ones_taken c.in-Some.few.now c.next.new.self.rest.now s.1.0, c.loop-few.invariant.all, c.ones_in_few.ensures, c.from-ones.ensures);
+    }
 
 pub returns : goal.returns
-returns c =
-    let l = c.loop-from in
-    omega (arith, ones_rest c.args.map.now l.from c.ones_in_few-2.ensures, l.invariant.2)
+returns c = omega (arith, ones_none _ c.in-None.ensures.steps.1.0, c.loop-few.invariant.all)

@@ -14,4 +14,4 @@ returns c =
     let source = simp add_assoc at c.good_operand-source.ensures in
     let middle = simp add_assoc at c.good_middle-middle.ensures in
     let destination = simp add_assoc at c.good_operand-destination.ensures in
-    c.both-3.ensures ∙ rw (c.both.ensures, c.both-2.ensures, opcode, source, middle, destination) (sym (there_good a.words.now a.w))
+    rw (opcode, source, middle, destination) (sym (there_good a.words.now a.w))

@@ -1,10 +1,13 @@
-use Rattle.write.proofs.Answers.{write_refused}
+use Rattle.write.proofs.Answers.{write_refused, handed}
 use Rattle.write.proofs.write.Goals as goal
 
-pub write_checked-requires : goal.write_checked-requires
-write_checked-requires c = rw c.in-Good.is at c.check.ensures
-
-pub returns-in-Refused : goal.returns-in-Refused
-returns-in-Refused c =
+pub returns-in_err-tables : goal.returns-in_err-tables
+returns-in_err-tables c =
     let a = c.args in
-    write_refused a.m a.file.now a.words.now a.out.now (rw c.in-Refused.is at c.check.ensures)
+    handed _ c.from_residual.ensures (write_refused a.m a.file.now a.words.now a.out.now c.in_err-tables.ensures.says)
+
+-- the tables are the lent ones
+pub returns : goal.returns
+returns c =
+    let same = c.in_ok-tables.ensures.same in
+    rw (same.0, same.1, same.2) at c.write_checked.ensures

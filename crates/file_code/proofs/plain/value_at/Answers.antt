@@ -1,6 +1,5 @@
 use Prim.Native.Nat.{◌<◌, ◌^◌}
 use mathlib.Core.Path.{◌≡◌, ◌∙◌}
-use native.Mathlib.Omega.{arith}
 use lib.IntN.{pos, ◌-ℤ◌}
 use mir.Syntax.{w32}
 use mir.Val.{to_z}
@@ -26,7 +25,7 @@ pub returns : goal.returns
 returns c =
     let a = c.args in
     to_z-of_z (overflow_sub-result c) ∙ difference c ∙ rw (c.half_of.ensures, c.raised.ensures, c.be32-window.ensures)
-    (valued_at a.file.now a.c c.requires (λ i. omega (arith, c.shared_slice_known-1.given i)))
+    (valued_at a.file.now a.c c.requires (λ i. (c.type_inv.file i).fits))
 
 pub overflow_cast-result : goal.overflow_cast-result
 overflow_cast-result c = record { sfits = raised_small c }

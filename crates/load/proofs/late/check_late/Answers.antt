@@ -1,28 +1,29 @@
 use mathlib.Core.Path.{sym, ◌∙◌}
 use native.Mathlib.Omega.{arith}
+use Rattle.std.proofs.lemmas.Grind.{common_steps}
 use Rattle.bits.proofs.Signs.{kept}
+use Rattle.law_format.specs.Views.{as_fault}
 use Rattle.law_format.proofs.Told.{told}
-use Rattle.load_checks.specs.View.{fault_of}
-use Rattle.load.proofs.Facts.{late, sum, limit, whole_is}
+use Rattle.load.proofs.Facts.{late, whole_is}
 use Rattle.load.proofs.late.check_late.Goals as goal
 
 pub check_handler_section-requires : goal.check_handler_section-requires
 check_handler_section-requires c =
-    let s = c.requires.1 in
-    let flags = kept c.args.front.header.header.flags (omega (arith, c.well_formed.1.0)) in
-    (c.requires.0, omega (arith, sum s, limit s c.requires.0), rw flags (whole_is s))
+    let flags = kept c.args.survey.front.header.header.flags (omega (arith, c.well_formed)) in
+    rw flags (whole_is c.args.survey.surveyed)
 
-pub returns-in-Found : goal.returns-in-Found
-returns-in-Found c =
-    sym (late c.requires.1 ∙ rw (told fault_of c.check_header.ensures c.in-Found.is))
+pub returns-in_err-check_header : goal.returns-in_err-check_header
+returns-in_err-check_header c =
+    let e = rw (told as_fault c.check_header.ensures c.in_err-check_header.was) at (late c.args.survey.surveyed) in
+    grind (arith, common_steps, e)
 
-pub returns-in-Found-check_exports : goal.returns-in-Found-check_exports
-returns-in-Found-check_exports c =
-    sym (late c.requires.1
-    ∙ rw (told fault_of c.check_header.ensures c.in-Nothing.is, told fault_of c.check_exports.ensures c.in-Found-check_exports.is))
+pub returns-in_err-check_exports : goal.returns-in_err-check_exports
+returns-in_err-check_exports c =
+    let e = rw (told as_fault c.check_header.ensures c.in_ok-check_header.was, told as_fault c.check_exports.ensures c.in_err-check_exports.was) at (late c.args.survey.surveyed) in
+    grind (arith, common_steps, e)
 
-pub returns-in-Nothing-check_exports : goal.returns-in-Nothing-check_exports
-returns-in-Nothing-check_exports c =
-    let flags = kept c.args.front.header.header.flags (omega (arith, c.well_formed.1.0)) in
+pub returns : goal.returns
+returns c =
+    let flags = kept c.args.survey.front.header.header.flags (omega (arith, c.well_formed)) in
     rw flags at c.check_handler_section.ensures
-    ∙ sym (late c.requires.1 ∙ rw (told fault_of c.check_header.ensures c.in-Nothing.is, told fault_of c.check_exports.ensures c.in-Nothing-check_exports.is))
+    ∙ sym (late c.args.survey.surveyed ∙ rw (told as_fault c.check_header.ensures c.in_ok-check_header.was, told as_fault c.check_exports.ensures c.in_ok-check_exports.was))

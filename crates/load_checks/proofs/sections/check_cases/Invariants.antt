@@ -1,13 +1,13 @@
-use Prim.Native.Nat.{◌≤◌}
+use Prim.Native.Nat.{◌-◌}
 use mathlib.Core.Path.{◌≡◌}
 use Rattle.law_format.specs.Loops.{Whole}
 use Rattle.format.specs.Sections.{cases_at}
-use Rattle.load_checks.specs.View.{cases_checked}
+use Rattle.load_checks.specs.Checked.{cases_checked}
 use Rattle.load_checks.proofs.Cases.{cases_left}
 use Rattle.load_checks.proofs.sections.check_cases.Given as goal
 
-abbrev pub invariant-loop-left : goal.invariant-loop-left
-invariant-loop-left l = (cases_left l.file l.code l.k l.n l.left l.here ≡ cases_checked l.file l.code l.k l.n l.initial.here) × (l.left ≤ l.n) × Whole (cases_at l.file l.left l.here)
-
-abbrev pub decreases-loop-left : goal.decreases-loop-left
-decreases-loop-left l = l.left
+-- what is found of those that are left is what is found of all, and all that are left can be read
+abbrev pub invariant-loop-j : goal.invariant-loop-j
+invariant-loop-j l =
+    let file = l.file.bytes.now in
+    (cases_left file l.code l.k l.n (l.n - l.j) l.here ≡ cases_checked file l.code l.k l.n l.initial.here) × Whole (cases_at file (l.n - l.j) l.here)

@@ -1,13 +1,13 @@
-use Prim.Native.Nat.{◌-◌, ◌≤◌}
+use Prim.Native.Nat.{◌-◌}
 use mathlib.Core.Path.{◌≡◌}
 use Rattle.law_format.specs.Loops.{leading}
 use Rattle.format.specs.Sections.{export_at}
 use Rattle.format.specs.Checks.{first_of, export_fault}
-use Rattle.law_format.proofs.Whole.{first_left}
 use Rattle.load_checks.proofs.sections.check_exports.Given as goal
 
-abbrev pub invariant-loop-left : goal.invariant-loop-left
-invariant-loop-left l = (first_left (export_at l.file) (export_fault l.code l.types) l.n l.left l.here ≡ first_of (export_fault l.code l.types) 0 (leading (export_at l.file) l.n l.initial.here)) × (l.left ≤ l.n)
-
-abbrev pub decreases-loop-left : goal.decreases-loop-left
-decreases-loop-left l = l.left
+-- the first fault of those that are left is the first of all
+abbrev pub invariant-loop-k : goal.invariant-loop-k
+invariant-loop-k l =
+    let each = export_fault l.sizes.code l.sizes.types in
+    let read = export_at l.file.bytes.now in
+    first_of each l.k (leading read (l.n - l.k) l.here) ≡ first_of each 0 (leading read l.n l.initial.here)

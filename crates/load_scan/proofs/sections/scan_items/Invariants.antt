@@ -8,8 +8,8 @@ use Rattle.load_scan.specs.Sums.{one}
 use Rattle.load_scan.proofs.sections.scan_items.Given as goal
 
 -- those counted and those left are all; each has a byte
-abbrev pub invariant-loop-why : goal.invariant-loop-why
-invariant-loop-why l = (plus l.count (tally one (items_at l.file l.here)) ≡ tally one (items_at l.file l.initial.here)) × (l.count ≤ l.here.at)
+abbrev pub invariant-loop-next : goal.invariant-loop-next
+invariant-loop-next l = (plus l.count (tally one (items_at l.file.bytes.now l.here)) ≡ tally one (items_at l.file.bytes.now l.initial.here)) × (l.count ≤ l.here.at)
 
-abbrev pub decreases-loop-why : goal.decreases-loop-why
-decreases-loop-why l = length l.file - l.here.at
+abbrev pub decreases-loop-next : goal.decreases-loop-next
+decreases-loop-next l = length l.file.bytes.now - l.here.at

@@ -1,45 +1,18 @@
-use Prim.Native.Nat.{ℕ, ◌≤◌, ◌<◌}
-use mathlib.Core.Path.{◌≡◌}
-use mathlib.Core.Option.{none}
-use native.Mathlib.Omega.{arith}
-use lib.ListN.{get_elem?}
-use Rattle.format.proofs.Ranges.{none_past}
-use Rattle.format.specs.Reading.{Reads}
-use Rattle.law_format.specs.Loops.{leading}
-use Rattle.format.specs.WellFormed.{export_from}
-use Rattle.law_format.proofs.Types.{ExportEntry}
-use Rattle.law_format.proofs.Many.{many-length}
-use Rattle.law_format.proofs.Whole.{whole-many}
-use Rattle.table_names.proofs.Names.{exports}
-use Rattle.table_pieces.proofs.Tested.{Nth, nth}
-use Rattle.walk.proofs.known.export_in.Goals.{Start}
+use mathlib.Core.Path.{◌∙◌}
+use Rattle.walk.proofs.Events.{export_is, exports_whole, export_absent, export_stands}
 use Rattle.walk.proofs.known.export_in.Goals as goal
 
-module _ (s : Start) where
-  abbrev read : Reads ℕ ExportEntry
-  read = export_from s.args.file.now s.args.words.now
-
-  abbrev n : ℕ
-  n = s.args.places.counts.exports
-
-  abbrev w : ℕ
-  w = s.args.places.at_exports
-
-  absent : n ≤ s.args.k → none ≡ get_elem? (leading read n w) s.args.k
-  absent h = none_past (leading read n w) s.args.k (rw (many-length read n w (whole-many read n w s.requires)) h)
-
-  this : s.args.k < n → Nth (exports s.args.file.now s.args.words.now) n w s.args.k
-  this h = nth (exports s.args.file.now s.args.words.now) n w s.args.k s.requires h
-
 pub returns-then-counts-number : goal.returns-then-counts-number
-returns-then-counts-number c = rw (← absent (goal.at.returns-then-counts-number c).Start c.if-counts-number.true)
-
-pub overflow_add-places : goal.overflow_add-places
-overflow_add-places c = omega (arith, (this (goal.at.overflow_add-places c).Start c.if-counts-number.false).room)
-
-pub export_there-export-requires : goal.export_there-export-requires
-export_there-export-requires c = (this (goal.at.export_there-export-requires c).Start c.if-counts-number.false).room
+returns-then-counts-number c =
+    let t = c.args.tables in
+    let whole = exports_whole t.«module» t.file.bytes.now t.words.now t.places t.good c.args.state in
+    export_is t.«module» t.file.bytes.now t.words.now t.places t.good c.args.state c.args.k
+    ∙ rw (export_absent t.file.bytes.now t.words.now t.places.counts.exports t.places.at_exports c.args.k whole c.if-counts-number.true)
 
 pub returns : goal.returns
 returns c =
-    rw ((this (goal.at.returns c).Start c.if-counts-number.false).there, ← c.export_there-export.ensures, ← c.exported.ensures)
+    let t = c.args.tables in
+    let whole = exports_whole t.«module» t.file.bytes.now t.words.now t.places t.good c.args.state in
+    let goes = rw c.sizes.ensures at c.exported.ensures in
+    export_is t.«module» t.file.bytes.now t.words.now t.places t.good c.args.state c.args.k
+    ∙ rw (export_stands t.file.bytes.now t.words.now t.places.counts.exports t.places.at_exports c.args.k whole c.if-counts-number.false, ← c.export_there-export.ensures, ← goes)

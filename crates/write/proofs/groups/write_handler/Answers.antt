@@ -12,116 +12,90 @@ use Rattle.format.specs.WellFormed.{handler_from, last_from}
 use Rattle.format.specs.Writing.{Part}
 use Rattle.law_format.proofs.Groups.{cases_are}
 use Rattle.law_format.specs.Cased.{Cased}
-use Rattle.law_format.proofs.Told.{told}
 use Rattle.write_bytes.specs.Laid.{Ready}
-use Rattle.write_bytes.proofs.Chain.{Writing, writing, ready, ready_last, step, finish_last}
-use Rattle.table_handlers.specs.View.{handler_step}
+use Rattle.write_bytes.proofs.Chain.{writing, ready, ready_last, step, finish_last}
 use Rattle.table_groups.proofs.Members.{handler_cased}
 use Rattle.write_measure.specs.Heads.{head_line}
 use Rattle.write_measure.specs.Measured.{last_lines, lines_in}
 use Rattle.write_measure.proofs.Grouped.{before_last, named_lines, last_place, Handling, handling, handler_bad, head_limit}
 use Rattle.write.specs.Wrote.{parts_of}
 use Rattle.write.proofs.Laying.{parts_append}
-use Rattle.write.proofs.groups.write_handler.Goals.{After-put_head-place, After-write_rows-named, In-Got}
+use Rattle.write.proofs.groups.write_handler.Goals.{In-Some}
 use Rattle.write.proofs.groups.write_handler.Goals as goal
 
 -- the head that was read
-module _ (c : In-Got) where
-  head_is : handler_from c.args.words.now c.args.w ≡ got c.in-Got.handler (c.args.w + handler_width)
-  head_is = told (handler_step c.args.w) c.handler_from.ensures c.in-Got.is
+module _ (c : In-Some) where
+  head_is : handler_from c.args.words.now c.args.from.next ≡ got c.in-Some.handler (c.args.from.next + handler_width)
+  head_is = sym c.in-Some.ensures
 
-  handler_is : Handling c.args.file.now c.args.words.now c.args.w c.in-Got.handler
-  handler_is = handling c.args.file.now c.args.words.now c.args.w head_is c.requires.1
+  handler_is : Handling c.args.file.bytes.now c.args.words.now c.args.from.next c.in-Some.handler
+  handler_is = handling c.args.file.bytes.now c.args.words.now c.args.from.next head_is c.requires.0
 
-  cased : Cased c.in-Got.handler.cases
-  cased = handler_cased c.args.file.now c.args.words.now c.args.w head_is
+  cased : Cased c.in-Some.handler.cases
+  cased = handler_cased c.args.file.bytes.now c.args.words.now c.args.from.next head_is
 
-  abbrev count_is : let h = c.in-Got.handler in nat_abs (to_z w32 (of_z w32 h.cases)) - 1 ≡ before_last h
+  count_is : let h = c.in-Some.handler in nat_abs (to_z w32 (of_z w32 h.cases)) - 1 ≡ before_last h
   count_is = rw (cases_are cased, ap mag cased.is)
 
   -- the parts of the head, of the cases with a name, and of the last
   abbrev head : List Part
-  head = (head_line c.in-Got.handler).parts
+  head = (head_line c.in-Some.handler).parts
 
   abbrev named : List Part
-  named = parts_of (named_lines c.args.file.now c.args.words.now c.args.w c.in-Got.handler)
+  named = parts_of (named_lines c.args.file.bytes.now c.args.words.now c.args.from.next c.in-Some.handler)
 
   abbrev last : List Part
   last =
       let a = c.args in
-      parts_of (lines_in last_lines (last_from a.words.now (last_place a.file.now a.words.now a.w c.in-Got.handler)))
+      parts_of (lines_in last_lines (last_from a.words.now (last_place a.file.bytes.now a.words.now a.from.next c.in-Some.handler)))
 
-  parts_are : let a = c.args in parts_of (head_line c.in-Got.handler ∷ (named_lines a.file.now a.words.now a.w c.in-Got.handler
-      ++ lines_in last_lines (last_from a.words.now (last_place a.file.now a.words.now a.w c.in-Got.handler)))) ≡ head ++ (named ++ last)
+  parts_are : let a = c.args in parts_of (head_line c.in-Some.handler ∷ (named_lines a.file.bytes.now a.words.now a.from.next c.in-Some.handler
+      ++ lines_in last_lines (last_from a.words.now (last_place a.file.bytes.now a.words.now a.from.next c.in-Some.handler)))) ≡ head ++ (named ++ last)
   parts_are =
       let a = c.args in
-      let h = c.in-Got.handler in
+      let h = c.in-Some.handler in
       ap (λ ps. head ++ ps)
-      (parts_append (named_lines a.file.now a.words.now a.w h) (lines_in last_lines (last_from a.words.now (last_place a.file.now a.words.now a.w h))))
+      (parts_append (named_lines a.file.bytes.now a.words.now a.from.next h) (lines_in last_lines (last_from a.words.now (last_place a.file.bytes.now a.words.now a.from.next h))))
 
-  abbrev all_ready : Ready (head ++ (named ++ last)) c.args.at c.args.out.now
-  all_ready = rw parts_are at (rw handler_is.lines at c.requires.2)
+  all_ready : Ready (head ++ (named ++ last)) c.args.from.place c.args.out.now
+  all_ready = rw parts_are at (rw handler_is.lines at c.requires.1)
 
-abbrev after_head : (p : After-put_head-place)
-    → let a = p.args in
-    Writing (((head_line p.in-Got.handler).parts) ++ ((parts_of (named_lines p.args.file.now p.args.words.now p.args.w p.in-Got.handler)) ++ (let it : List Part = let a = p.args in
-    parts_of (lines_in last_lines (last_from a.words.now (last_place a.file.now a.words.now a.w p.in-Got.handler))) in it))) a.at a.out.now ((parts_of (named_lines p.args.file.now p.args.words.now p.args.w p.in-Got.handler)) ++ (let it : List Part = let a = p.args in
-    parts_of (lines_in last_lines (last_from a.words.now (last_place a.file.now a.words.now a.w p.in-Got.handler))) in it)) p.put_head-place.result p.put_head-place.new.out
-after_head p = step (((head_line p.in-Got.handler).parts)) ((parts_of (named_lines p.args.file.now p.args.words.now p.args.w p.in-Got.handler)) ++ (let it : List Part = let a = p.args in
-    parts_of (lines_in last_lines (last_from a.words.now (last_place a.file.now a.words.now a.w p.in-Got.handler))) in it)) (writing ((let it : Ready (((head_line p.in-Got.handler).parts) ++ ((parts_of (named_lines p.args.file.now p.args.words.now p.args.w p.in-Got.handler)) ++ (let it : List Part = let a = p.args in
-    parts_of (lines_in last_lines (last_from a.words.now (last_place a.file.now a.words.now a.w p.in-Got.handler))) in it))) p.args.at p.args.out.now = rw (let it : let a = p.args in parts_of (head_line p.in-Got.handler ∷ (named_lines a.file.now a.words.now a.w p.in-Got.handler
-    ++ lines_in last_lines (last_from a.words.now (last_place a.file.now a.words.now a.w p.in-Got.handler)))) ≡ ((head_line p.in-Got.handler).parts) ++ ((parts_of (named_lines p.args.file.now p.args.words.now p.args.w p.in-Got.handler)) ++ (let it : List Part = let a = p.args in
-    parts_of (lines_in last_lines (last_from a.words.now (last_place a.file.now a.words.now a.w p.in-Got.handler))) in it)) = let a = p.args in
-    let h = p.in-Got.handler in
-    ap (λ ps. ((head_line p.in-Got.handler).parts) ++ ps)
-    (parts_append (named_lines a.file.now a.words.now a.w h) (lines_in last_lines (last_from a.words.now (last_place a.file.now a.words.now a.w h)))) in it) at (rw (handling p.args.file.now p.args.words.now p.args.w (told (handler_step p.args.w) p.handler_from.ensures p.in-Got.is) p.requires.1).lines at p.requires.2) in it))) p.put_head-place.ensures
-
-after_named : (p : After-write_rows-named)
-    → let a = p.args in
-    Writing (((head_line p.in-Got.handler).parts) ++ ((parts_of (named_lines p.args.file.now p.args.words.now p.args.w p.in-Got.handler)) ++ (let it : List Part = let a = p.args in
-    parts_of (lines_in last_lines (last_from a.words.now (last_place a.file.now a.words.now a.w p.in-Got.handler))) in it))) a.at a.out.now ((let it : List Part = let a = p.args in
-    parts_of (lines_in last_lines (last_from a.words.now (last_place a.file.now a.words.now a.w p.in-Got.handler))) in it)) p.write_rows-named.result.place p.write_rows-named.new.out
-after_named p = step ((parts_of (named_lines p.args.file.now p.args.words.now p.args.w p.in-Got.handler))) ((let it : List Part = let a = p.args in
-    parts_of (lines_in last_lines (last_from a.words.now (last_place a.file.now a.words.now a.w p.in-Got.handler))) in it)) ((step (((head_line p.in-Got.handler).parts)) ((parts_of (named_lines p.args.file.now p.args.words.now p.args.w p.in-Got.handler)) ++ (let it : List Part = let a = p.args in
-    parts_of (lines_in last_lines (last_from a.words.now (last_place a.file.now a.words.now a.w p.in-Got.handler))) in it)) (writing ((let it : Ready (((head_line p.in-Got.handler).parts) ++ ((parts_of (named_lines p.args.file.now p.args.words.now p.args.w p.in-Got.handler)) ++ (let it : List Part = let a = p.args in
-    parts_of (lines_in last_lines (last_from a.words.now (last_place a.file.now a.words.now a.w p.in-Got.handler))) in it))) p.args.at p.args.out.now = rw (let it : let a = p.args in parts_of (head_line p.in-Got.handler ∷ (named_lines a.file.now a.words.now a.w p.in-Got.handler
-    ++ lines_in last_lines (last_from a.words.now (last_place a.file.now a.words.now a.w p.in-Got.handler)))) ≡ ((head_line p.in-Got.handler).parts) ++ ((parts_of (named_lines p.args.file.now p.args.words.now p.args.w p.in-Got.handler)) ++ (let it : List Part = let a = p.args in
-    parts_of (lines_in last_lines (last_from a.words.now (last_place a.file.now a.words.now a.w p.in-Got.handler))) in it)) = let a = p.args in
-    let h = p.in-Got.handler in
-    ap (λ ps. ((head_line p.in-Got.handler).parts) ++ ps)
-    (parts_append (named_lines a.file.now a.words.now a.w h) (lines_in last_lines (last_from a.words.now (last_place a.file.now a.words.now a.w h)))) in it) at (rw (handling p.args.file.now p.args.words.now p.args.w (told (handler_step p.args.w) p.handler_from.ensures p.in-Got.is) p.requires.1).lines at p.requires.2) in it))) p.put_head-place.ensures)) (rw ((let it : let h = p.in-Got.handler in nat_abs (to_z w32 (of_z w32 h.cases)) - 1 ≡ before_last h = rw (cases_are (handler_cased p.args.file.now p.args.words.now p.args.w (told (handler_step p.args.w) p.handler_from.ensures p.in-Got.is)), ap mag (handler_cased p.args.file.now p.args.words.now p.args.w (told (handler_step p.args.w) p.handler_from.ensures p.in-Got.is)).is) in it)) at p.write_rows-named.ensures.laid)
-
-last_at : (p : After-write_rows-named)
-    → let a = p.args in
-    p.write_rows-named.result.next ≡ last_place a.file.now a.words.now a.w p.in-Got.handler
-last_at p = rw ((let it : let h = p.in-Got.handler in nat_abs (to_z w32 (of_z w32 h.cases)) - 1 ≡ before_last h = rw (cases_are (handler_cased p.args.file.now p.args.words.now p.args.w (told (handler_step p.args.w) p.handler_from.ensures p.in-Got.is)), ap mag (handler_cased p.args.file.now p.args.words.now p.args.w (told (handler_step p.args.w) p.handler_from.ensures p.in-Got.is)).is) in it)) at p.write_rows-named.ensures.stopped
+pub returns-in_default : goal.returns-in_default
+returns-in_default c =
+    let a = c.args in
+    absurd (handler_bad a.file.bytes.now a.words.now a.from.next (sym c.in_default.ensures) c.requires.0)
 
 pub overflow_cast-cases : goal.overflow_cast-cases
-overflow_cast-cases c = rw (cases_are (cased (goal.at.overflow_cast-cases c).In-Got)) (tt, omega (arith, (cased (goal.at.overflow_cast-cases c).In-Got).most))
+overflow_cast-cases c = let k = cased (goal.at.overflow_cast-cases c).In-Some in rw (cases_are k) (tt, omega (arith, k.most))
 
-pub put_head-place-requires : goal.put_head-place-requires
-put_head-place-requires c = (cased (goal.at.put_head-place-requires c).In-Got, ready (head (goal.at.put_head-place-requires c).In-Got) (named (goal.at.put_head-place-requires c).In-Got ++ last (goal.at.put_head-place-requires c).In-Got) (writing (all_ready (goal.at.put_head-place-requires c).In-Got)))
+pub put_head-requires : goal.put_head-requires
+put_head-requires c =
+    let s = (goal.at.put_head-requires c).In-Some in
+    (cased s, ready (head s) (named s ++ last s) (writing (all_ready s)))
 
 pub overflow_sub-cases : goal.overflow_sub-cases
-overflow_sub-cases c = rw (cases_are (cased (goal.at.overflow_sub-cases c).In-Got)) (cased (goal.at.overflow_sub-cases c).In-Got).least
+overflow_sub-cases c = let k = cased (goal.at.overflow_sub-cases c).In-Some in rw (cases_are k) k.least
 
-pub overflow_add-w : goal.overflow_add-w
-overflow_add-w c = let a = c.args in omega (arith, head_limit a.words.now a.w (head_is (goal.at.overflow_add-w c).In-Got))
+pub overflow_add-head : goal.overflow_add-head
+overflow_add-head c = omega (arith, head_limit c.args.words.now c.args.from.next (head_is (goal.at.overflow_add-head c).In-Some))
 
 pub write_rows-named-requires : goal.write_rows-named-requires
 write_rows-named-requires c =
-    rw (count_is (goal.at.write_rows-named-requires c).In-Got) (c.requires.0, (handler_is (goal.at.write_rows-named-requires c).In-Got).rows, ready (named (goal.at.write_rows-named-requires c).In-Got) (last (goal.at.write_rows-named-requires c).In-Got) (after_head (goal.at.write_rows-named-requires c).After-put_head-place))
+    let s = (goal.at.write_rows-named-requires c).In-Some in
+    let after = step (head s) (named s ++ last s) (writing (all_ready s)) c.put_head.ensures in
+    rw (count_is s) ((handler_is s).rows, ready (named s) (last s) after)
 
 pub write_last-requires : goal.write_last-requires
 write_last-requires c =
-    rw (last_at (goal.at.write_last-requires c).After-write_rows-named) ((handler_is (goal.at.write_last-requires c).In-Got).last, ready_last (last (goal.at.write_last-requires c).In-Got) (after_named (goal.at.write_last-requires c).After-write_rows-named))
+    let s = (goal.at.write_last-requires c).In-Some in
+    let after = step (head s) (named s ++ last s) (writing (all_ready s)) c.put_head.ensures in
+    let rows = rw (count_is s) at c.write_rows-named.ensures in
+    rw rows.stopped ((handler_is s).last, ready_last (last s) (step (named s) (last s) after rows.laid))
 
-pub returns-in-Bad : goal.returns-in-Bad
-returns-in-Bad c =
-    let a = c.args in
-    absurd (handler_bad a.file.now a.words.now a.w (told (handler_step a.w) c.handler_from.ensures c.in-Bad.is) c.requires.1)
-
-pub returns-in-Got : goal.returns-in-Got
-returns-in-Got c =
-    let r = rw (last_at (goal.at.returns-in-Got c).After-write_rows-named) at c.write_last.ensures in
-    record { stopped = r.stopped ∙ sym (handler_is (goal.at.returns-in-Got c).In-Got).next; laid = rw ((handler_is (goal.at.returns-in-Got c).In-Got).lines, parts_are (goal.at.returns-in-Got c).In-Got) (finish_last (last (goal.at.returns-in-Got c).In-Got) (after_named (goal.at.returns-in-Got c).After-write_rows-named) r.laid) }
+pub returns : goal.returns
+returns c =
+    let s = (goal.at.returns c).In-Some in
+    let after = step (head s) (named s ++ last s) (writing (all_ready s)) c.put_head.ensures in
+    let rows = rw (count_is s) at c.write_rows-named.ensures in
+    let r = rw rows.stopped at c.write_last.ensures in
+    record { stopped = r.stopped ∙ sym (handler_is s).next; laid = rw ((handler_is s).lines, parts_are s) (finish_last (last s) (step (named s) (last s) after rows.laid) r.laid) }

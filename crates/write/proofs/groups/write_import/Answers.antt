@@ -3,70 +3,63 @@ use mathlib.Core.Path.{◌≡◌, sym, ◌∙◌}
 use mathlib.Core.List.{List, [], ◌∷◌}
 use native.Mathlib.Omega.{arith}
 use lib.IntN.{pos}
-use lib.ListN.{get_or}
-use mir.Syntax.{w32}
-use mir.Val.{to_z, of_z}
 use Rattle.format.specs.Reading.{got}
 use Rattle.format.specs.Words.{import_width}
-use Rattle.format.specs.WellFormed.{function_count_from}
+use Rattle.format.specs.WellFormed.{word, function_count_from}
 use Rattle.format.specs.Writing.{Part, operand}
 use Rattle.bits.proofs.Signs.{kept}
-use Rattle.law_format.proofs.Told.{told}
 use Rattle.write_bytes.specs.Laid.{Ready}
-use Rattle.write_bytes.proofs.Chain.{Writing, writing, ready, ready_last, step, finish_last}
-use Rattle.table_names.specs.View.{function_count_step}
+use Rattle.write_bytes.proofs.Chain.{writing, ready, ready_last, step, finish_last}
 use Rattle.write_measure.proofs.Grouped.{function_lines, Imported, imported, import_bad, count_word, count_room, count_limit}
 use Rattle.write.specs.Wrote.{parts_of}
-use Rattle.write.proofs.groups.write_import.Goals.{After-put_one-arg-in-Got-1, After-put_one-place, In-Got}
+use Rattle.write.proofs.groups.write_import.Goals.{In-Some}
 use Rattle.write.proofs.groups.write_import.Goals as goal
 
--- the count that was read
-module _ (c : In-Got) where
-  abbrev counts : function_count_from c.args.words.now c.args.w ≡ got c.in-Got.count (c.args.w + import_width)
-  counts = told (function_count_step c.args.w) c.function_count_from.ensures c.in-Got.is
+-- the count that was read, its word as the code has it, and the functions' parts
+module _ (c : In-Some) where
+  counts : function_count_from c.args.words.now c.args.from.next ≡ got c.in-Some.count (c.args.from.next + import_width)
+  counts = sym c.in-Some.ensures
 
-  abbrev module_is : Imported c.args.file.now c.args.words.now c.args.w c.in-Got.count
-  module_is = imported c.args.file.now c.args.words.now c.args.w counts c.requires.1
-
-pub offset_bounds-words-w : goal.offset_bounds-words-w
-offset_bounds-words-w c = let a = c.args in omega (arith, count_limit a.words.now a.w (counts (goal.at.offset_bounds-words-w c).In-Got))
-
-pub bounds-words-w : goal.bounds-words-w
-bounds-words-w c = let a = c.args in omega (arith, count_room a.words.now a.w (counts (goal.at.bounds-words-w c).In-Got))
-
--- the word as the code has it, and the functions' parts
-module _ (c : After-put_one-arg-in-Got-1) where
-  abbrev value_is : let a = c.args in to_z w32 (of_z w32 (get_or a.words.now a.w (pos 0))) ≡ pos c.in-Got.count
-  value_is = let a = c.args in kept _ c.put_one-arg-in-Got-1.given ∙ count_word a.words.now a.w ((told (function_count_step c.args.w) c.function_count_from.ensures c.in-Got.is))
+  module_is : Imported c.args.file.bytes.now c.args.words.now c.args.from.next c.in-Some.count
+  module_is = imported c.args.file.bytes.now c.args.words.now c.args.from.next counts c.requires.0
 
   abbrev functions : List Part
-  functions = let a = c.args in parts_of (function_lines a.file.now a.words.now a.w c.in-Got.count)
+  functions = parts_of (function_lines c.args.file.bytes.now c.args.words.now c.args.from.next c.in-Some.count)
 
-  abbrev all_ready : let a = c.args in Ready (operand (pos c.in-Got.count) ∷ functions) a.at a.out.now
-  all_ready = rw ((imported c.args.file.now c.args.words.now c.args.w (told (function_count_step c.args.w) c.function_count_from.ensures c.in-Got.is) c.requires.1)).lines at c.requires.2
+  all_ready : Ready (operand (pos c.in-Some.count) ∷ functions) c.args.from.place c.args.out.now
+  all_ready = rw module_is.lines at c.requires.1
 
-after_count : (p : After-put_one-place)
-    → let a = p.args in
-    Writing (operand (pos p.in-Got.count) ∷ (let it : List Part = let a = p.args in parts_of (function_lines a.file.now a.words.now a.w p.in-Got.count) in it)) a.at a.out.now ((let it : List Part = let a = p.args in parts_of (function_lines a.file.now a.words.now a.w p.in-Got.count) in it)) p.put_one-place.result p.put_one-place.new.out
-after_count p =
-    step (operand (pos p.in-Got.count) ∷ []) ((let it : List Part = let a = p.args in parts_of (function_lines a.file.now a.words.now a.w p.in-Got.count) in it)) (writing ((let it : let a = p.args in Ready (operand (pos p.in-Got.count) ∷ (let it : List Part = let a = p.args in parts_of (function_lines a.file.now a.words.now a.w p.in-Got.count) in it)) a.at a.out.now = rw ((imported p.args.file.now p.args.words.now p.args.w (told (function_count_step p.args.w) p.function_count_from.ensures p.in-Got.is) p.requires.1)).lines at p.requires.2 in it))) (rw ((let it : let a = p.args in to_z w32 (of_z w32 (get_or a.words.now a.w (pos 0))) ≡ pos p.in-Got.count = let a = p.args in kept _ p.put_one-arg-in-Got-1.given ∙ count_word a.words.now a.w ((told (function_count_step p.args.w) p.function_count_from.ensures p.in-Got.is)) in it)) at p.put_one-place.ensures)
+pub returns-in_default : goal.returns-in_default
+returns-in_default c =
+    let a = c.args in
+    absurd (import_bad a.file.bytes.now a.words.now a.from.next (sym c.in_default.ensures) c.requires.0)
 
-pub put_one-place-requires : goal.put_one-place-requires
-put_one-place-requires c = rw (value_is c) (ready (operand (pos c.in-Got.count) ∷ []) (functions c) (writing (all_ready c)))
+pub offset_bounds-words-from : goal.offset_bounds-words-from
+offset_bounds-words-from c = omega (arith, count_limit c.args.words.now c.args.from.next (counts (goal.at.offset_bounds-words-from c).In-Some))
 
-pub overflow_add-w : goal.overflow_add-w
-overflow_add-w c = let a = c.args in omega (arith, count_limit a.words.now a.w (counts (goal.at.overflow_add-w c).In-Got))
+pub bounds-words-from : goal.bounds-words-from
+bounds-words-from c = omega (arith, count_room c.args.words.now c.args.from.next (counts (goal.at.bounds-words-from c).In-Some))
+
+pub put_one-requires : goal.put_one-requires
+put_one-requires c =
+    let s = (goal.at.put_one-requires c).In-Some in
+    let value = kept (word c.args.words.now c.args.from.next) (omega arith) ∙ count_word c.args.words.now c.args.from.next (counts s) in
+    rw value (ready (operand (pos c.in-Some.count) ∷ []) (functions s) (writing (all_ready s)))
+
+pub overflow_add-head : goal.overflow_add-head
+overflow_add-head c = omega (arith, count_limit c.args.words.now c.args.from.next (counts (goal.at.overflow_add-head c).In-Some))
 
 pub write_rows-requires : goal.write_rows-requires
-write_rows-requires c = (c.requires.0, (module_is (goal.at.write_rows-requires c).In-Got).rows, ready_last (functions (goal.at.write_rows-requires c).After-put_one-arg-in-Got-1) (after_count (goal.at.write_rows-requires c).After-put_one-place))
+write_rows-requires c =
+    let s = (goal.at.write_rows-requires c).In-Some in
+    let value = kept (word c.args.words.now c.args.from.next) (omega arith) ∙ count_word c.args.words.now c.args.from.next (counts s) in
+    ((module_is s).rows, ready_last (functions s) (step (operand (pos c.in-Some.count) ∷ []) (functions s) (writing (all_ready s)) (rw value at c.put_one.ensures)))
 
-pub returns-in-Bad : goal.returns-in-Bad
-returns-in-Bad c =
-    let a = c.args in
-    absurd (import_bad a.file.now a.words.now a.w (told (function_count_step a.w) c.function_count_from.ensures c.in-Bad.is) c.requires.1)
-
-pub returns-in-Got : goal.returns-in-Got
-returns-in-Got c =
-    let m = module_is (goal.at.returns-in-Got c).In-Got in
+pub returns : goal.returns
+returns c =
+    let s = (goal.at.returns c).In-Some in
+    let m = module_is s in
     let r = c.write_rows.ensures in
-    record { stopped = r.stopped ∙ sym m.next; laid = rw m.lines (finish_last (functions (goal.at.returns-in-Got c).After-put_one-arg-in-Got-1) (after_count (goal.at.returns-in-Got c).After-put_one-place) r.laid) }
+    let value = kept (word c.args.words.now c.args.from.next) (omega arith) ∙ count_word c.args.words.now c.args.from.next (counts s) in
+    let after = step (operand (pos c.in-Some.count) ∷ []) (functions s) (writing (all_ready s)) (rw value at c.put_one.ensures) in
+    record { stopped = r.stopped ∙ sym m.next; laid = rw m.lines (finish_last (functions s) after r.laid) }

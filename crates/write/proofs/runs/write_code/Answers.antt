@@ -1,43 +1,47 @@
-use mathlib.Core.Path.{◌∙◌}
+use Prim.Native.Nat.{◌-◌, ◌<◌}
+use mathlib.Core.Path.{◌≡◌, ◌∙◌}
 use native.Mathlib.Omega.{arith}
 use Rattle.rows.specs.declared.Kind.TheVariants as K
 use Rattle.table_rows.specs.Rows.{row_from}
 use Rattle.write_measure.specs.Measured.{row_lines}
-use Rattle.write.proofs.Laying.{laying, here_coded, here_ready, slots_room, slots_turn, left_ready, left_done}
+use Rattle.write.proofs.Laying.{rest_is, here_coded, here_ready, slots_room, slots_turn, left_ready, left_done}
+use Rattle.write.proofs.runs.write_code.Goals.{In-loop, After-loop}
 use Rattle.write.proofs.runs.write_code.Goals as goal
 
-pub loop-left-init : goal.loop-left-init
-loop-left-init c =
-    let a = c.args in
-    laying (row_lines a.file.now) (row_from a.file.now a.words.now K.Code) a.n a.w a.at a.out.now c.requires.1 c.requires.2
+-- before the last two there are more than two
+more : (c : In-loop) → 2 < c.args.n - c.loop.counter
+more c = omega (arith, c.loop-test.true, c.min-last.ensures)
 
-pub put_over-place-requires : goal.put_over-place-requires
-put_over-place-requires c =
+pub put_over-requires : goal.put_over-requires
+put_over-requires c =
     let a = c.args in
-    let i = c.loop-left.invariant in
-    let more = c.loop-left-test.true in (
-      (here_coded a.file.now a.words.now i more).there.good,
-      (here_ready a.file.now a.words.now i more).narrow,
-      slots_room a.file.now a.words.now i more,
-    )
+    let y = c.loop.invariant in
+    let more = more (goal.at.put_over-requires c).In-loop in
+    ((here_coded a.file.bytes.now a.words.now y more).there.good, (here_ready a.file.bytes.now a.words.now y more).narrow, slots_room a.file.bytes.now a.words.now y more)
 
-pub overflow_add-here : goal.overflow_add-here
-overflow_add-here c =
+pub overflow_add-done : goal.overflow_add-done
+overflow_add-done c =
     let a = c.args in
-    omega (arith, (here_coded a.file.now a.words.now c.loop-left.invariant c.loop-left-test.true).limit)
+    omega (arith, (here_coded a.file.bytes.now a.words.now c.loop.invariant (more (goal.at.overflow_add-done c).In-loop)).limit)
 
-pub loop-left-preserved : goal.loop-left-preserved
-loop-left-preserved c =
+pub loop-preserved : goal.loop-preserved
+loop-preserved c =
     let a = c.args in
-    slots_turn a.file.now a.words.now c.loop-left.invariant c.loop-left-test.true c.put_over-place.ensures
+    rest_is _ _ (omega (arith, c.loop-test.true)) (slots_turn a.file.bytes.now a.words.now c.loop.invariant (more (goal.at.loop-preserved c).In-loop) c.put_over.ensures)
+
+-- then as many are left as the last
+left : (c : After-loop) → c.args.n - c.loop.counter ≡ c.min-last.result
+left c = omega (arith, c.loop-test.false, c.loop.auto.counter-end, c.min-last.ensures)
 
 pub write_each-requires : goal.write_each-requires
 write_each-requires c =
     let a = c.args in
-    (c.requires.0, c.loop-left.invariant.all, left_ready (row_lines a.file.now) (row_from a.file.now a.words.now K.Code) c.loop-left.invariant)
+    let y = c.loop.invariant in
+    rw (← left (goal.at.write_each-requires c).After-loop) (y.all, left_ready (row_lines a.file.bytes.now) (row_from a.file.bytes.now a.words.now K.Code) y)
 
 pub returns : goal.returns
 returns c =
     let a = c.args in
-    let d = c.write_each.ensures in
-    record { stopped = d.stopped ∙ c.loop-left.invariant.stopped; laid = left_done (row_lines a.file.now) (row_from a.file.now a.words.now K.Code) c.loop-left.invariant d.laid }
+    let y = c.loop.invariant in
+    let d = rw (← left (goal.at.returns c).After-loop) at c.write_each.ensures in
+    record { stopped = d.stopped ∙ y.stopped; laid = left_done (row_lines a.file.bytes.now) (row_from a.file.bytes.now a.words.now K.Code) y d.laid }

@@ -1,33 +1,25 @@
 use native.Mathlib.Omega.{arith}
-use Rattle.table_rows.specs.Rows.{row_from}
-use Rattle.write_measure.specs.Measured.{row_lines}
-use Rattle.write.proofs.Laying.{laying, done, ended, row_whole, row_here, row_ready, row_turn}
+use Rattle.write.proofs.Laying.{done, ended, rest_is, row_whole, row_here, row_ready, row_turn}
 use Rattle.write.proofs.runs.write_each.Goals as goal
 
-pub loop-left-init : goal.loop-left-init
-loop-left-init c =
+pub put_from-requires : goal.put_from-requires
+put_from-requires c =
     let a = c.args in
-    (c.row_width-width.ensures, laying (row_lines a.file.now) (row_from a.file.now a.words.now a.kind) a.n a.w a.at a.out.now c.requires.1 c.requires.2)
+    let y = c.loop.invariant in
+    (row_whole a.file.bytes.now a.words.now a.kind y (omega (arith, c.loop-test.true)), row_ready a.file.bytes.now a.words.now a.kind y (omega (arith, c.loop-test.true)))
 
-pub put_from-place-requires : goal.put_from-place-requires
-put_from-place-requires c =
+pub overflow_add-done : goal.overflow_add-done
+overflow_add-done c =
     let a = c.args in
-    let y = c.loop-left.invariant.1 in
-    let more = c.loop-left-test.true in
-    (c.requires.0, row_whole a.file.now a.words.now a.kind y more, row_ready a.file.now a.words.now a.kind y more)
+    omega (arith, c.row_width-width.ensures, (row_here a.file.bytes.now a.words.now a.kind c.loop.invariant (omega (arith, c.loop-test.true))).is.limit)
 
-pub overflow_add-here : goal.overflow_add-here
-overflow_add-here c =
+pub loop-preserved : goal.loop-preserved
+loop-preserved c =
     let a = c.args in
-    omega (arith, c.loop-left.invariant.0, (row_here a.file.now a.words.now a.kind c.loop-left.invariant.1 c.loop-left-test.true).is.limit)
-
-pub loop-left-preserved : goal.loop-left-preserved
-loop-left-preserved c =
-    let a = c.args in
-    let i = c.loop-left.invariant in
-    (i.0, rw i.0 (row_turn a.file.now a.words.now a.kind i.1 c.loop-left-test.true c.put_from-place.ensures))
+    let y = c.loop.invariant in
+    rw c.row_width-width.ensures (rest_is _ _ (omega (arith, c.loop-test.true)) (row_turn a.file.bytes.now a.words.now a.kind y (omega (arith, c.loop-test.true)) c.put_from.ensures))
 
 pub returns : goal.returns
 returns c =
-    let i = c.loop-left.invariant.1 in
-    record { stopped = ended _ _ i (omega (arith, c.loop-left-test.false)); laid = done _ _ i (omega (arith, c.loop-left-test.false)) }
+    let y = c.loop.invariant in
+    record { stopped = ended _ _ y (omega (arith, c.loop-test.false)); laid = done _ _ y (omega (arith, c.loop-test.false)) }

@@ -11,7 +11,7 @@ pub put_operand-requires : goal.put_operand-requires
 put_operand-requires c =
     let words = c.args.words.now in
     let w = c.args.w in
-    operand_ready (writing (rw (middle_there_lem words w (omega (arith, c.byte_there.ensures))) at c.requires.1)) (kept (word words (w + 1)) c.put_operand-arg-in-1-to-255-1.given)
+    operand_ready (writing (rw (middle_there_lem words w (omega (arith, c.byte_there.ensures))) at c.requires.1)) (kept (word words (w + 1)) (omega arith))
 
 pub returns-in-0 : goal.returns-in-0
 returns-in-0 c =
@@ -23,4 +23,4 @@ returns-in-1-to-255 c =
     let words = c.args.words.now in
     let w = c.args.w in
     let only = middle_there_lem words w (omega (arith, c.byte_there.ensures)) in
-    rw only (finish (operand_step (writing (rw only at c.requires.1)) (kept (word words (w + 1)) c.put_operand-arg-in-1-to-255-1.given) c.put_operand.ensures))
+    rw only (finish (operand_step (writing (rw only at c.requires.1)) (kept (word words (w + 1)) (omega arith)) c.put_operand.ensures))

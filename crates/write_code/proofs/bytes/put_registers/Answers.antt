@@ -19,24 +19,24 @@ after_first : (p : After-put_operand-next)
 after_first p =
     let words = p.args.words.now in
     let w = p.args.w in
-    operand_step (writing (rw (two_there words w (omega (arith, p.byte_there.ensures))) at p.requires.1)) (kept (word words (w + 1)) p.put_operand-arg-in-4-to-255-2-1.given) p.put_operand-next.ensures
+    operand_step (writing (rw (two_there words w (omega (arith, p.byte_there.ensures))) at p.requires.1)) (kept (word words (w + 1)) (omega arith)) p.put_operand-next.ensures
 
 pub put_operand-requires : goal.put_operand-requires
 put_operand-requires c =
     let words = c.args.words.now in
     let w = c.args.w in
-    operand_ready (writing (rw (one_there words w (omega (arith, c.byte_there.ensures))) at c.requires.1)) (kept (word words (w + 1)) c.put_operand-arg-in-0-to-2-1.given)
+    operand_ready (writing (rw (one_there words w (omega (arith, c.byte_there.ensures))) at c.requires.1)) (kept (word words (w + 1)) (omega arith))
 
 pub put_operand-next-requires : goal.put_operand-next-requires
 put_operand-next-requires c =
     let words = c.args.words.now in
     let w = c.args.w in
-    operand_ready (writing (rw (two_there words w (omega (arith, c.byte_there.ensures))) at c.requires.1)) (kept (word words (w + 1)) c.put_operand-arg-in-4-to-255-2-1.given)
+    operand_ready (writing (rw (two_there words w (omega (arith, c.byte_there.ensures))) at c.requires.1)) (kept (word words (w + 1)) (omega arith))
 
 pub put_operand-requires-in-4-to-255 : goal.put_operand-requires-in-4-to-255
 put_operand-requires-in-4-to-255 c =
     let a = c.args in
-    operand_ready (after_first (goal.at.put_operand-requires-in-4-to-255 c).After-put_operand-next) (kept (word a.words.now (a.w + 2)) c.put_operand-arg-in-4-to-255-4-1.given)
+    operand_ready (after_first (goal.at.put_operand-requires-in-4-to-255 c).After-put_operand-next) (kept (word a.words.now (a.w + 2)) (omega arith))
 
 pub returns-in-3 : goal.returns-in-3
 returns-in-3 c =
@@ -48,7 +48,7 @@ returns-in-0-to-2 c =
     let words = c.args.words.now in
     let w = c.args.w in
     let only = one_there words w (omega (arith, c.byte_there.ensures)) in
-    rw only (finish (operand_step (writing (rw only at c.requires.1)) (kept (word words (w + 1)) c.put_operand-arg-in-0-to-2-1.given) c.put_operand.ensures))
+    rw only (finish (operand_step (writing (rw only at c.requires.1)) (kept (word words (w + 1)) (omega arith)) c.put_operand.ensures))
 
 pub returns-in-4-to-255 : goal.returns-in-4-to-255
 returns-in-4-to-255 c =
@@ -56,4 +56,4 @@ returns-in-4-to-255 c =
     let words = a.words.now in
     let w = a.w in
     rw (two_there words w (omega (arith, c.byte_there.ensures)))
-    (finish (operand_step (after_first (goal.at.returns-in-4-to-255 c).After-put_operand-next) (kept (word words (w + 2)) c.put_operand-arg-in-4-to-255-4-1.given) c.put_operand-in-4-to-255.ensures))
+    (finish (operand_step (after_first (goal.at.returns-in-4-to-255 c).After-put_operand-next) (kept (word words (w + 2)) (omega arith)) c.put_operand-in-4-to-255.ensures))

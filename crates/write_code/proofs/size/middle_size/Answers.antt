@@ -13,7 +13,7 @@ use Rattle.write_code.proofs.size.middle_size.Goals as goal
 size_is : (c : After-more) → let a = c.args in c.used_middle.result + c.more.result ≡ length (bytes_of (middle_there a.words.now a.w))
 size_is c =
     let v = word c.args.words.now (c.args.w + 1) in
-    let more = rw (kept v c.more-arg-1.given) at c.more.ensures in
+    let more = rw (kept v (omega arith)) at c.more.ensures in
     ap (λ n. n + c.more.result) (c.used_middle.ensures ∙ ap used_middle c.byte_there.ensures) ∙ middle_long c.requires c.more.result more
 
 pub overflow_add-result : goal.overflow_add-result

@@ -1,5 +1,6 @@
 use Prim.Native.Nat.{◌+◌}
 use mathlib.Core.Path.{ap, ◌∙◌}
+use native.Mathlib.Omega.{arith}
 use Rattle.bits.proofs.Signs.{kept}
 use Rattle.format.specs.Operands.{in30bits}
 use Rattle.format.specs.WellFormed.{word}
@@ -8,4 +9,4 @@ use Rattle.write_code.proofs.size.narrow_middle.Goals as goal
 
 pub returns : goal.returns
 returns c =
-    c.is_narrow.ensures ∙ ap in30bits (kept (word c.args.words.now (c.args.w + 1)) c.is_narrow-arg-1.given) ∙ middle_narrow c.requires
+    c.is_narrow.ensures ∙ ap in30bits (kept (word c.args.words.now (c.args.w + 1)) (omega arith)) ∙ middle_narrow c.requires

@@ -15,10 +15,10 @@ used_is : (c : After-used_registers) → let a = c.args in c.used_registers.resu
 used_is c = c.used_registers.ensures ∙ ap used_registers c.byte_there.ensures
 
 first_is : (c : After-more) → let a = c.args in c.more.result + 1 ≡ length (encode_operand (word a.words.now (a.w + 1)))
-first_is c = let a = c.args in rw (kept (word a.words.now (a.w + 1)) c.more-arg-1.given) at c.more.ensures
+first_is c = let a = c.args in rw (kept (word a.words.now (a.w + 1)) (omega arith)) at c.more.ensures
 
 second_is : (c : After-more-2) → let a = c.args in c.more-2.result + 1 ≡ length (encode_operand (word a.words.now (a.w + 2)))
-second_is c = let a = c.args in rw (kept (word a.words.now (a.w + 2)) c.more-arg-2-1.given) at c.more-2.ensures
+second_is c = let a = c.args in rw (kept (word a.words.now (a.w + 2)) (omega arith)) at c.more-2.ensures
 
 pub overflow_add-result : goal.overflow_add-result
 overflow_add-result c =

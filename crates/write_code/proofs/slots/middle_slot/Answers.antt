@@ -14,9 +14,9 @@ used_is c = c.used_middle-used.ensures ∙ ap used_middle c.byte_there.ensures
 
 pub put_slot-requires : goal.put_slot-requires
 put_slot-requires c =
-    rw (kept (word c.args.words.now (c.args.w + 1)) c.put_slot-arg-2-1.given) (middle_range c.requires.0 c.requires.1, omega (arith, c.requires.2))
+    rw (kept (word c.args.words.now (c.args.w + 1)) (omega arith)) (middle_range c.requires.0 c.requires.1, omega (arith, c.requires.2))
 
 pub returns : goal.returns
 returns c =
     let a = c.args in
-    rw (← middle_bytes a.words.now a.w (used_is (goal.at.returns c).After-used_middle-used)) (rw (kept (word a.words.now (a.w + 1)) c.put_slot-arg-2-1.given) at c.put_slot.ensures)
+    rw (← middle_bytes a.words.now a.w (used_is (goal.at.returns c).After-used_middle-used)) (rw (kept (word a.words.now (a.w + 1)) (omega arith)) at c.put_slot.ensures)

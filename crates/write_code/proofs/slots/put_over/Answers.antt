@@ -13,7 +13,7 @@ use Rattle.write_code.specs.There.{registers_there, middle_there, addressing_the
 use Rattle.write_code.specs.Over.{Over}
 use Rattle.write_code.proofs.Overs.{over_over, alone_over, over_same, parts_bytes, parts_each}
 use Rattle.write_code.proofs.Sizes.{parts_long}
-use Rattle.write_code.proofs.slots.put_over.Goals.{After-middle_slot-c, After-put_byte-b, After-register_slots-d, Start}
+use Rattle.write_code.proofs.slots.put_over.Goals.{Start}
 use Rattle.write_code.proofs.slots.put_over.Goals as goal
 
 module _ (s : Start) where
@@ -35,42 +35,49 @@ module _ (s : Start) where
   room : s.args.at + 2 + length middle + length source + length destination + 4 ≤ length s.args.out.now
   room = omega (arith, s.requires.2, parts_long words s.args.w)
 
-after_two : (p : After-put_byte-b) → (p.put_byte-b.result ≡ p.args.at + length (two p.before.before.before.before.before.before.before.before.before)) × (p.put_byte-b.new.out ≡ put p.args.at (two p.before.before.before.before.before.before.before.before.before) p.args.out.now)
-after_two p =
-    let e = p.put_byte-a.ensures in
-    let f = p.put_byte-b.ensures in
-    let joined : p.put_byte-b.new.out ≡ put p.args.at (p.byte_there.result ∷ p.addressing_there.result ∷ []) p.args.out.now
-    = f.1 ∙ ap (put p.put_byte-a.result (p.addressing_there.result ∷ [])) e.1
-    ∙ put_next p.args.at (p.byte_there.result ∷ []) (p.addressing_there.result ∷ []) p.args.out.now e.0 (omega (arith, room p.before.before.before.before.before.before.before.before.before)) in (
-      omega (arith, e.0, f.0),
-      joined ∙ ap (λ (b : ℕ). put p.args.at (b ∷ p.addressing_there.result ∷ []) p.args.out.now) p.byte_there.ensures
-          ∙ ap (λ (b : ℕ). put p.args.at (byte_of (word (words p.before.before.before.before.before.before.before.before.before) p.args.w) ∷ b ∷ []) p.args.out.now) p.addressing_there.ensures,
-    )
+  -- after the opcode and the addressing byte
+  module _ {x y a b : ℕ} {l m : List ℕ} (ex : x ≡ byte_of (word words s.args.w)) (ea : (a ≡ s.args.at + 1) × (l ≡ put s.args.at (x ∷ []) s.args.out.now))
+      (ey : y ≡ addressing_there words s.args.w) (eb : (b ≡ a + 1) × (m ≡ put a (y ∷ []) l)) where
+    after_two : (b ≡ s.args.at + length two) × (m ≡ put s.args.at two s.args.out.now)
+    after_two =
+        let joined : m ≡ put s.args.at (x ∷ y ∷ []) s.args.out.now
+        = eb.1 ∙ ap (put a (y ∷ [])) ea.1 ∙ put_next s.args.at (x ∷ []) (y ∷ []) s.args.out.now ea.0 (omega (arith, room)) in (
+          omega (arith, ea.0, eb.0),
+          joined ∙ ap (λ (n : ℕ). put s.args.at (n ∷ y ∷ []) s.args.out.now) ex ∙ ap (λ (n : ℕ). put s.args.at (byte_of (word words s.args.w) ∷ n ∷ []) s.args.out.now) ey,
+        )
 
-two_same : (p : After-put_byte-b) → length p.put_byte-b.new.out ≡ length p.args.out.now
-two_same p = ap length (after_two p).1 ∙ length-put p.args.at (two p.before.before.before.before.before.before.before.before.before) p.args.out.now (omega (arith, room p.before.before.before.before.before.before.before.before.before))
+    two_same : length m ≡ length s.args.out.now
+    two_same = ap length after_two.1 ∙ length-put s.args.at two s.args.out.now (omega (arith, room))
 
-after_middle : (p : After-middle_slot-c) → Over (two p.before.before.before.before.before.before.before.before.before.before.before.before.before ++ middle p.before.before.before.before.before.before.before.before.before.before.before.before.before) p.args.at p.args.out.now p.middle_slot-c.result p.middle_slot-c.new.out
-after_middle p = alone_over (two p.before.before.before.before.before.before.before.before.before.before.before.before.before) (after_two p.before.before.before.before) p.middle_slot-c.ensures (omega (arith, room p.before.before.before.before.before.before.before.before.before.before.before.before.before))
+    -- and the middle register, and the source's
+    module _ {c : ℕ} {n : List ℕ} (ec : Over middle b m c n) where
+      after_middle : Over (two ++ middle) s.args.at s.args.out.now c n
+      after_middle = alone_over two after_two ec (omega (arith, room))
 
-after_source : (p : After-register_slots-d) → Over (two p.before.before.before.before.before.before.before.before.before.before.before.before.before.before.before.before.before ++ middle p.before.before.before.before.before.before.before.before.before.before.before.before.before.before.before.before.before ++ source p.before.before.before.before.before.before.before.before.before.before.before.before.before.before.before.before.before) p.args.at p.args.out.now p.register_slots-d.result p.register_slots-d.new.out
-after_source p =
-    over_over (after_middle p.before.before.before.before) p.register_slots-d.ensures (omega (arith, room p.before.before.before.before.before.before.before.before.before.before.before.before.before.before.before.before.before, length-append (two p.before.before.before.before.before.before.before.before.before.before.before.before.before.before.before.before.before) (middle p.before.before.before.before.before.before.before.before.before.before.before.before.before.before.before.before.before)))
+      after_source : {d : ℕ} {o : List ℕ} → Over source c n d o → Over (two ++ middle ++ source) s.args.at s.args.out.now d o
+      after_source ed = over_over after_middle ed (omega (arith, room, length-append two middle))
 
 pub middle_slot-c-requires : goal.middle_slot-c-requires
 middle_slot-c-requires c =
-    (c.requires.0.middle, (parts_each (words (goal.at.middle_slot-c-requires c).Start) c.args.w c.requires.1).0, omega (arith, room (goal.at.middle_slot-c-requires c).Start, (after_two (goal.at.middle_slot-c-requires c).After-put_byte-b).0, two_same (goal.at.middle_slot-c-requires c).After-put_byte-b))
+    let s = (goal.at.middle_slot-c-requires c).Start in
+    let t = after_two s c.byte_there.ensures c.put_byte-a.ensures c.addressing_there.ensures c.put_byte-b.ensures in
+    let same = two_same s c.byte_there.ensures c.put_byte-a.ensures c.addressing_there.ensures c.put_byte-b.ensures in
+    (c.requires.0.middle, (parts_each (words s) c.args.w c.requires.1).0, omega (arith, room s, t.0, same))
 
 pub register_slots-d-requires : goal.register_slots-d-requires
 register_slots-d-requires c =
-    let o = after_middle (goal.at.register_slots-d-requires c).After-middle_slot-c in
-    (c.requires.0.source, (parts_each (words (goal.at.register_slots-d-requires c).Start) c.args.w c.requires.1).1, omega (arith, room (goal.at.register_slots-d-requires c).Start, o.placed, over_same o, length-append (two (goal.at.register_slots-d-requires c).Start) (middle (goal.at.register_slots-d-requires c).Start)))
+    let s = (goal.at.register_slots-d-requires c).Start in
+    let o = after_middle s c.byte_there.ensures c.put_byte-a.ensures c.addressing_there.ensures c.put_byte-b.ensures c.middle_slot-c.ensures in
+    (c.requires.0.source, (parts_each (words s) c.args.w c.requires.1).1, omega (arith, room s, o.placed, over_same o, length-append (two s) (middle s)))
 
 pub register_slots-requires : goal.register_slots-requires
 register_slots-requires c =
-    let o = after_source (goal.at.register_slots-requires c).After-register_slots-d in
-    (c.requires.0.destination, (parts_each (words (goal.at.register_slots-requires c).Start) c.args.w c.requires.1).2, omega (arith, room (goal.at.register_slots-requires c).Start, o.placed, over_same o, length-append (two (goal.at.register_slots-requires c).Start) (middle (goal.at.register_slots-requires c).Start), length-append (two (goal.at.register_slots-requires c).Start ++ middle (goal.at.register_slots-requires c).Start) (source (goal.at.register_slots-requires c).Start)))
+    let s = (goal.at.register_slots-requires c).Start in
+    let o = after_source s c.byte_there.ensures c.put_byte-a.ensures c.addressing_there.ensures c.put_byte-b.ensures c.middle_slot-c.ensures c.register_slots-d.ensures in
+    (c.requires.0.destination, (parts_each (words s) c.args.w c.requires.1).2, omega (arith, room s, o.placed, over_same o, length-append (two s) (middle s), length-append (two s ++ middle s) (source s)))
 
 pub returns : goal.returns
 returns c =
-    rw (← parts_bytes (words (goal.at.returns c).Start) c.args.w) (over_over (after_source (goal.at.returns c).After-register_slots-d) c.register_slots.ensures (omega (arith, room (goal.at.returns c).Start, length-append (two (goal.at.returns c).Start) (middle (goal.at.returns c).Start), length-append (two (goal.at.returns c).Start ++ middle (goal.at.returns c).Start) (source (goal.at.returns c).Start))))
+    let s = (goal.at.returns c).Start in
+    let o = after_source s c.byte_there.ensures c.put_byte-a.ensures c.addressing_there.ensures c.put_byte-b.ensures c.middle_slot-c.ensures c.register_slots-d.ensures in
+    rw (← parts_bytes (words s) c.args.w) (over_over o c.register_slots.ensures (omega (arith, room s, length-append (two s) (middle s), length-append (two s ++ middle s) (source s))))

@@ -17,8 +17,8 @@ overflow_add-result-then-used c = omega (arith, c.requires.1, more_small _ c.mor
 
 pub returns-then-used : goal.returns-then-used
 returns-then-used c =
-    let formed = rw (kept c.args.v c.ranges.v.sfits) at c.form_of.ensures in
-    rw c.if-used.true (slot_used formed c.requires.1 c.put_bits.ensures (omega (arith, more_is c)))
+    let front = rw (kept c.args.v c.ranges.v.sfits) at c.formed.ensures in
+    rw c.if-used.true (slot_used front c.requires.1 c.put_bits.ensures (omega (arith, more_is c)))
 
 pub returns-else-used : goal.returns-else-used
 returns-else-used c = rw c.if-used.false (slot_unused _ c.requires.1 c.put_bits.ensures)

@@ -20,7 +20,7 @@ used_is c = c.used_registers-used.ensures ∙ ap used_registers c.byte_there.ens
 
 pub put_slot-next-requires : goal.put_slot-next-requires
 put_slot-next-requires c =
-    rw (kept (word c.args.words.now (c.args.w + 1)) c.put_slot-arg-2-1.given) ((registers_range c.requires.0 c.requires.1).0, omega (arith, c.requires.2))
+    rw (kept (word c.args.words.now (c.args.w + 1)) (omega arith)) ((registers_range c.requires.0 c.requires.1).0, omega (arith, c.requires.2))
 
 -- the first slot, and the bytes of both
 module _ (p : After-put_slot-next) where
@@ -31,17 +31,17 @@ module _ (p : After-put_slot-next) where
   second = cond (ltb 1 p.used_registers-used.result) (encode_operand (word p.args.words.now (p.args.w + 2))) []
 
   first_over : Over first p.args.at p.args.out.now p.put_slot-next.result p.put_slot-next.new.out
-  first_over = rw (kept (word p.args.words.now (p.args.w + 1)) p.put_slot-arg-2-1.given) at p.put_slot-next.ensures
+  first_over = rw (kept (word p.args.words.now (p.args.w + 1)) (omega arith)) at p.put_slot-next.ensures
 
   room : p.args.at + length first + length second + 4 ≤ length p.args.out.now
   room = omega (arith, p.requires.2, ap length (register_bytes p.args.words.now p.args.w ((p.used_registers-used.ensures ∙ ap used_registers p.byte_there.ensures))), length-append first second)
 
 pub put_slot-requires : goal.put_slot-requires
 put_slot-requires c =
-    rw (kept (word c.args.words.now (c.args.w + 2)) c.put_slot-arg-4-1.given)
+    rw (kept (word c.args.words.now (c.args.w + 2)) (omega arith))
     ((registers_range c.requires.0 c.requires.1).1, omega (arith, room (goal.at.put_slot-requires c).After-put_slot-next, (first_over (goal.at.put_slot-requires c).After-put_slot-next).placed, c.put_slot-next.auto.out))
 
 pub returns : goal.returns
 returns c =
-    let last : Over (second (goal.at.returns c).After-put_slot-next) c.put_slot-next.result c.put_slot-next.new.out c.put_slot.result c.put_slot.new.out = rw (kept (word c.args.words.now (c.args.w + 2)) c.put_slot-arg-4-1.given) at c.put_slot.ensures in
+    let last : Over (second (goal.at.returns c).After-put_slot-next) c.put_slot-next.result c.put_slot-next.new.out c.put_slot.result c.put_slot.new.out = rw (kept (word c.args.words.now (c.args.w + 2)) (omega arith)) at c.put_slot.ensures in
     rw (← register_bytes c.args.words.now c.args.w (used_is (goal.at.returns c).After-used_registers-used)) (over_over (first_over (goal.at.returns c).After-put_slot-next) last (room (goal.at.returns c).After-put_slot-next))

@@ -4,29 +4,8 @@ use mir.Syntax.{w32}
 use mir.Facts.{to_z_pos}
 use Rattle.format.specs.Operands.{shown}
 use Rattle.bits.proofs.Signs.{kept}
-use Rattle.write_lines.proofs.Forms.{len_small, span_small, type_len}
+use Rattle.write_lines.proofs.Forms.{span_small, type_len}
 use Rattle.write_lines.proofs.length.type_len.Goals as goal
-
-pub overflow_add-result : goal.overflow_add-result
-overflow_add-result c = omega (arith, len_small _ c.operand_len.ensures, len_small _ c.operand_len-2.ensures)
-
-pub overflow_cast-map : goal.overflow_cast-map
-overflow_cast-map c =
-    record { sfits = omega (arith, span_small _ _ c.span_len-map.ensures c.requires) }
-
-pub overflow_add-result-2 : goal.overflow_add-result-2
-overflow_add-result-2 c =
-    omega (arith, len_small _ c.operand_len.ensures, len_small _ c.operand_len-2.ensures, len_small _ c.operand_len-3.ensures)
-
-pub overflow_add-result-3 : goal.overflow_add-result-3
-overflow_add-result-3 c =
-    omega (
-      arith,
-      len_small _ c.operand_len.ensures,
-      len_small _ c.operand_len-2.ensures,
-      len_small _ c.operand_len-3.ensures,
-      span_small _ _ c.span_len-map.ensures c.requires,
-    )
 
 pub returns : goal.returns
 returns c =
@@ -37,6 +16,6 @@ returns c =
       c.operand_len-3.ensures,
       kept t.id (omega (arith, c.well_formed.1.0)),
       kept t.size (omega (arith, c.well_formed.1.0)),
-      to_z_pos w32 {n = c.span_len-map.result} (omega (arith, span_small _ _ c.span_len-map.ensures c.requires)),
+      to_z_pos w32 {n = c.span_len-map.result} (omega (arith, span_small _ _ c.span_len-map.ensures c.args.file.spared)),
       c.span_len-map.ensures,
-    ) (sym (type_len t.id t.size (shown c.args.file.now t.map)))
+    ) (sym (type_len t.id t.size (shown c.args.file.bytes.now t.map)))

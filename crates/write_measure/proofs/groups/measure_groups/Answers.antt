@@ -2,47 +2,37 @@ use Prim.Native.Nat.{ℕ}
 use mathlib.Core.Path.{◌≡◌, sym, ap, ◌∙◌}
 use native.Mathlib.Omega.{arith}
 use Rattle.format.specs.Reading.{got}
-use Rattle.law_format.proofs.Told.{told}
 use Rattle.law_format.proofs.Whole.{whole_got, whole_first}
 use Rattle.rows.specs.Groups.{Grouped}
 use Rattle.table_groups.specs.Groups.{group_from}
-use Rattle.write_measure.specs.Measured.{group_lines, measured, size_read}
-use Rattle.write_measure.proofs.Sizes.{measured-told, measuring, done, wide, turn}
+use Rattle.write_measure.specs.Measured.{group_lines}
+use Rattle.write_measure.proofs.Sizes.{measured-told, wide, turn}
+use Rattle.write_measure.proofs.Growth.{handed}
 use Rattle.write_measure.proofs.Ends.{group_limit, group_fitting}
 use Rattle.write_measure.proofs.groups.measure_groups.Goals.{After-measure_group}
 use Rattle.write_measure.proofs.groups.measure_groups.Goals as goal
 
-pub loop-left-init : goal.loop-left-init
-loop-left-init c =
-    let a = c.args in
-    measuring (group_lines a.file.now) (group_from a.file.now a.words.now a.group) a.n a.w a.from c.requires.2
-
 pub measure_group-requires : goal.measure_group-requires
 measure_group-requires c =
-    let i = c.loop-left in
-    let h = whole_first _ i.left i.here i.invariant.all c.loop-left-test.true in
-    (c.requires.0, omega (arith, c.requires.1, i.invariant.grown, group_limit c.args.file.now c.args.words.now i.here c.args.group h), h)
+    let a = c.args in
+    let here = c.loop.done.next in
+    let h = whole_first _ _ here c.loop.invariant.all (omega (arith, c.loop-test.true)) in
+    (omega (arith, c.requires.0, c.loop.invariant.grown, group_limit a.file.bytes.now a.words.now here a.group h), h)
 
 -- the group that was measured
-module _ (c : After-measure_group) where
-  there : (g : Grouped) × (q : ℕ) × (group_from c.args.file.now c.args.words.now c.args.group c.loop-left.here ≡ got g q)
-  there = let i = c.loop-left in whole_got _ (whole_first _ i.left i.here i.invariant.all c.loop-left-test.true)
+there : (c : After-measure_group) → (g : Grouped) × (q : ℕ) × (group_from c.args.file.bytes.now c.args.words.now c.args.group c.loop.done.next ≡ got g q)
+there c = whole_got _ (whole_first _ _ c.loop.done.next c.loop.invariant.all (omega (arith, c.loop-test.true)))
 
-  size_is : size_read c.measure_group.result ≡ measured c.loop-left.size c.loop-left.here (group_lines c.args.file.now there.0)
-  size_is = rw there.2 at c.measure_group.ensures.0
+pub returns-in_err-done : goal.returns-in_err-done
+returns-in_err-done c =
+    let t = there (goal.at.returns-in_err-done c).After-measure_group in
+    handed _ _ _ c.from_residual.ensures (wide _ _ c.loop.invariant (omega (arith, c.loop-test.true)) t.2 (sym (rw t.2 at c.in_err-done.ensures.0)))
 
-pub returns-in-Wide : goal.returns-in-Wide
-returns-in-Wide c =
-    (wide _ _ c.loop-left.invariant c.loop-left-test.true (there (goal.at.returns-in-Wide c).After-measure_group).2 (told size_read (size_is (goal.at.returns-in-Wide c).After-measure_group) c.in-Wide.is), tt)
-
-pub loop-left-preserved : goal.loop-left-preserved
-loop-left-preserved c =
+pub loop-preserved : goal.loop-preserved
+loop-preserved c =
     let a = c.args in
-    let i = c.loop-left in
-    let g = (there (goal.at.loop-left-preserved c).After-measure_group).0 in
-    let f = told size_read (size_is (goal.at.loop-left-preserved c).After-measure_group) c.in-Fits.is in
-    let q : (there (goal.at.loop-left-preserved c).After-measure_group).1 ≡ c.in-Fits.next = group_fitting a.file.now a.words.now a.group i.here (there (goal.at.loop-left-preserved c).After-measure_group).1 g (there (goal.at.loop-left-preserved c).After-measure_group).2 ∙ sym (measured-told _ _ (group_lines a.file.now g) f).next in
-    turn _ _ i.invariant c.loop-left-test.true ((there (goal.at.loop-left-preserved c).After-measure_group).2 ∙ ap (got g) q) f (rw c.in-Fits.is at c.measure_group.ensures.1)
-
-pub returns : goal.returns
-returns c = let i = c.loop-left.invariant in (done _ _ i (omega (arith, c.loop-left-test.false)), i.grown)
+    let file = a.file.bytes.now in
+    let t = there (goal.at.loop-preserved c).After-measure_group in
+    let f = sym (rw t.2 at c.in_ok-done.ensures.0) in
+    let q : t.1 ≡ c.in_ok-done.done.next = group_fitting file a.words.now a.group c.loop.done.next t.1 t.0 t.2 ∙ sym (measured-told _ _ (group_lines file t.0) f).next in
+    turn _ _ c.loop.invariant (omega (arith, c.loop-test.true)) (t.2 ∙ ap (got t.0) q) (omega (arith, c.loop-test.true)) f c.in_ok-done.ensures.1

@@ -1,7 +1,0 @@
-use Rattle.load_scan.proofs.sections.scan_group.Goals as goal
-
-pub returns-in-Imports : goal.returns-in-Imports
-returns-in-Imports c = rw c.in-Imports.is c.scan_import.ensures
-
-pub returns-in-Handlers : goal.returns-in-Handlers
-returns-in-Handlers c = rw c.in-Handlers.is c.scan_handler.ensures

@@ -1,9 +1,0 @@
-use mathlib.Core.Path.{refl}
-use native.Mathlib.Omega.{arith}
-use Rattle.load_store.proofs.Facts.{five}
-use Rattle.load_store.proofs.put_handler.Goals as goal
-
-pub returns : goal.returns
-returns c =
-    let g = c.well_formed.1.1.0 in
-    (refl, five _ _ _ _ _ _ _ c.put_five.ensures (omega (arith, g)) (omega (arith, g)) (omega (arith, g)) (omega (arith, g)) (omega (arith, g)))
