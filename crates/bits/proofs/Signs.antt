@@ -12,7 +12,7 @@ use lib.Signed.{mag, lt_z}
 use mir.Syntax.{w32}
 use mir.Val.{to_z, of_z}
 use mir.Facts.{to_z-of_z}
-use Rattle.bits.specs.Bits.{natural_of, same_z}
+use Rattle.bits.specs.Bits.{signed, bits_of, natural_of, same_z}
 use Rattle.std.specs.Prelude.{Option, Some, None}
 
 pub flip_pos : (n : ℕ) → negsuc 0 -ℤ pos n ≡ negsuc n
@@ -72,3 +72,11 @@ module _ (x y : ℤ) (h : mag x < 2 ^ 31) (k : mag y < 2 ^ 31) where
 
   pub is_other : (of_z w32 x ≡ of_z w32 y → ⊥) → same_z x y ≡ false
   is_other ne = sym (same_bits x y h k) ∙ ne_eqb _ _ ne
+
+-- the two's complement of 32 bits is the library's
+pub word_bits : (z : ℤ) → of_z w32 z ≡ bits_of (2 ^ 31) z
+word_bits (pos n) = refl
+word_bits (negsuc n) = refl
+
+pub word_signed : (u : ℕ) → to_z w32 u ≡ signed (2 ^ 31) u
+word_signed u = refl

@@ -8,9 +8,8 @@ ghost use Rattle.std.specs.Prelude.{◌≡◌, length};
 
 use crate::report::{good, refused};
 use crate::shown::Shown;
-use files::{Unread, read_file};
+use files::{Unread, has_argument, read_file};
 use load::load;
-use std::env::FillError;
 use std::io;
 use std::rt::{Env, Files};
 
@@ -119,11 +118,6 @@ fn with_argument<R: Env + Files + Print>(rt: &R, t: Tally, i: usize) -> io::Resu
         Some(lent) => Ok(Tally { lent, ..t }),
         None => Ok(t.with(reported(rt, &arg[..len], t.lent)?)),
     }
-}
-
-// Whether there is an argument of this number. 0 is the program's name.
-fn has_argument<R: Env>(rt: &R, i: usize) -> bool {
-    !matches!(rt.arg(i, &mut []), Err(FillError::NotPresent))
 }
 
 fn report_all<R: Env + Files + Print>(rt: &R) -> io::Result<()> {

@@ -9,15 +9,38 @@ use format::instruction::Addressing;
 use format::types::Cursor;
 use values::opcode::is_opcode;
 
-// An operand's length, by its first byte. Three arms of constants are selects: no jump that could be guessed wrong.
-#[tactic(auto, unfolding(crate::specs::Plain::width))]
-pub fn width(b: u8) -> usize
-    ensures { result ≡ Spec.width b }
+// What an operand's first byte says: how long the operand is, what the highest bit of its value is worth, and how far from the end of four bytes its
+// bits end.
+#[derive(Clone, Copy)]
+pub struct Form {
+    pub width: usize,
+    pub half: u32,
+    pub shift: u32,
+}
+
+// Three arms of constants are selects: no jump that could be guessed wrong.
+#[tactic(auto, unfolding(crate::specs::Plain::width, crate::specs::Plain::half_of, crate::specs::Plain::shift_of))]
+pub fn form_of(b: u8) -> Form
+    ensures width { result.width ≡ Spec.width b }
+    ensures half { result.half ≡ Spec.half_of b }
+    ensures shift { result.shift ≡ Spec.shift_of b }
 {
     match b {
-        0..=127 => 1,
-        128..=191 => 2,
-        192..=255 => 4,
+        0..=127 => Form {
+            width: 1,
+            half: 0x40,
+            shift: 24,
+        },
+        128..=191 => Form {
+            width: 2,
+            half: 0x2000,
+            shift: 16,
+        },
+        192..=255 => Form {
+            width: 4,
+            half: 0x2000_0000,
+            shift: 0,
+        },
     }
 }
 
@@ -81,36 +104,13 @@ pub fn is_plain(file: &[u8], c: Cursor) -> bool
     plain_operands(file, c) <= 5
 }
 
-// What the highest bit of an operand beside its form is worth.
-#[tactic(auto, unfolding(crate::specs::Plain::half_of))]
-fn half_of(b: u8) -> u32
-    ensures { result ≡ Spec.half_of b }
-{
-    match b {
-        0..=127 => 0x40,
-        128..=191 => 0x2000,
-        192..=255 => 0x2000_0000,
-    }
-}
-
-// How far from the end of four bytes those bits end.
-#[tactic(auto, unfolding(crate::specs::Plain::shift_of))]
-fn shift_of(b: u8) -> u32
-    ensures { result ≡ Spec.shift_of b }
-{
-    match b {
-        0..=127 => 24,
-        128..=191 => 16,
-        192..=255 => 0,
-    }
-}
-
-// The value of those bits and half their range: no number is below zero, so that no jump is on the sign.
+// The value of an operand, whose bits stand at the front of four bytes, and half its range: no number is below zero, so that no jump is on the sign.
 fn raised(b: u8, window: u32) -> u32
     ensures { result ≡ Spec.raised b window }
 {
-    let half = half_of(b) as u64;
-    let bits = (window as u64) >> shift_of(b);
+    let form = form_of(b);
+    let half = form.half as u64;
+    let bits = (window as u64) >> form.shift;
     ((bits + half) & (half + half - 1)) as u32
 }
 
@@ -122,7 +122,7 @@ fn value_at(file: &[u8], c: Cursor) -> i32
     let at = c.at;
     let b = file[at];
     let window = be32(b, file[at + 1], file[at + 2], file[at + 3]);
-    (raised(b, window) as i32) - (half_of(b) as i32)
+    (raised(b, window) as i32) - (form_of(b).half as i32)
 }
 
 // Of n operands, the first's value.
@@ -146,7 +146,7 @@ pub fn second_of(file: &[u8], n: u32, c: Cursor) -> i32
         return 0;
     }
     let at = c.at;
-    value_at(file, c.past(width(file[at])))
+    value_at(file, c.past(form_of(file[at]).width))
 }
 
 // The place past n operands, of which there are two at most: of a source or a destination, with no loop.
@@ -159,10 +159,10 @@ pub fn past_two(file: &[u8], n: u32, c: Cursor) -> Cursor
         return c;
     }
     let at = c.at;
-    let d = c.past(width(file[at]));
+    let d = c.past(form_of(file[at]).width);
     if n == 1 {
         return d;
     }
     let at2 = d.at;
-    d.past(width(file[at2]))
+    d.past(form_of(file[at2]).width)
 }

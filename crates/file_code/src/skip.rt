@@ -5,7 +5,7 @@ ghost use Rattle.format.specs.Sections.{instruction_at};
 ghost use Rattle.law_format.specs.Views.{as_end};
 ghost use Rattle.file_code.specs.Plain as Spec;
 
-use crate::plain::{plain_operands, width};
+use crate::plain::{form_of, plain_operands};
 use crate::read_instruction;
 use format::refusal::Refusal;
 use format::types::Cursor;
@@ -17,7 +17,7 @@ fn past_operands(file: &[u8], n: u32, c: Cursor) -> Cursor
 {
     let mut here = c;
     for _ in 0..n {
-        here = here.past(width(file[here.at]));
+        here = here.past(form_of(file[here.at]).width);
     }
     here
 }

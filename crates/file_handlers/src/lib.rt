@@ -7,7 +7,6 @@ ghost use Rattle.law_format.specs.Loops.{end_of};
 ghost use Rattle.format.specs.Sections.{case_at, head_at};
 ghost use Rattle.law_format.specs.Views.{as_step, as_end};
 
-use bits::bits_of;
 use file_names::read_named;
 use file_pieces::read_four;
 use format::module::{ExceptionCase, Handler};
@@ -43,7 +42,7 @@ pub fn skip_case(file: File, c: Cursor) -> Result<Cursor, Refusal>
 fn cases_of(packed: i32) -> i32
     ensures { result ≡ pos (Spec.bits_of (2 ^ 31) packed % 2 ^ 16 + 1) }
 {
-    ((bits_of(0x8000_0000, packed) & 0xFFFF) + 1) as i32
+    ((packed.cast_unsigned() & 0xFFFF) + 1) as i32
 }
 
 #[tactic(auto, unfolding(format::specs::Sections::head_at))]

@@ -1,13 +1,15 @@
-// A file's bytes, into a lent slice.
+// What a program is handed: its arguments, and a file's bytes, into a lent slice.
 #![tactic(auto)]
 
 ghost use Rattle.std.specs.Prelude.{◌≡◌, ◌<◌, ◌≤◌, IfOk, length, take};
+ghost use Rattle.files.specs.Errors.{errno_of};
 ghost use Rattle.std.specs.Io.{ReadsAtMost};
 ghost use Rattle.std.specs.Io.KnownBytes.{Consumes, IsAtEnd, Keeps};
 
+use std::env::FillError;
 use std::error::Error;
 use std::io::{ErrorKind, Read};
-use std::rt::Files;
+use std::rt::{Env, Files};
 use std::{fmt, fs, io, str};
 
 // ---- Linux's numbers
@@ -43,7 +45,9 @@ pub enum Unread {
 
 impl Unread {
     // Linux's number; of what is none of its errors, 0.
-    pub fn errno(self) -> i32 {
+    pub fn errno(self) -> i32
+        ensures { result ≡ errno_of self }
+    {
         match self {
             Unread::Missing => ENOENT,
             Unread::NotAllowed => EACCES,
@@ -144,4 +148,9 @@ pub fn read_file<R: Files>(rt: &R, path: &[u8], room: &mut [u8]) -> Result<usize
     };
     let mut file = fs::open(rt, name)?;
     read_from(&mut file, room)
+}
+
+// Whether there is an argument of this number. 0 is the program's name.
+pub fn has_argument<R: Env>(rt: &R, i: usize) -> bool {
+    !matches!(rt.arg(i, &mut []), Err(FillError::NotPresent))
 }

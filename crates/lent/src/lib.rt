@@ -20,11 +20,7 @@ pub struct Reader<'a> {
 pub fn left_at(file: &[u8], at: Cursor) -> usize
     ensures { result ≡ length file.now - at.at }
 {
-    let from = at.at;
-    if file.len() < from {
-        return 0;
-    }
-    file.len() - from
+    file.len().saturating_sub(at.at)
 }
 
 impl<'a> Reader<'a> {

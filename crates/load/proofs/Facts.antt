@@ -7,6 +7,9 @@ use mathlib.Core.List.{List, []}
 use mathlib.Core.Option.{Option, none}
 use native.Mathlib.Omega.{arith}
 use lib.IntN.{ℤ, pos}
+use mir.Syntax.{w32}
+use mir.Val.{to_z}
+use mir.Facts.{to_z_pos}
 use lib.ListN.{length}
 use Rattle.format.specs.declared.types.Cursor.{Cursor}
 use Rattle.format.specs.declared.types.Placed.{Placed}
@@ -35,6 +38,10 @@ use Rattle.load_survey.specs.declared.Back.{Back}
 use Rattle.load_survey.specs.Survey.{Surveyed}
 use Rattle.load_survey.proofs.Facts.{Ran, code_ran, types_ran, items_ran, exports_ran, imports_ran, handlers_ran}
 use Rattle.load.specs.Whole.{of_read, besides}
+
+-- a count is passed as its bits
+pub as_number : (n : ℕ) → n < 2 ^ 31 → to_z w32 n ≡ pos n
+as_number n h = to_z_pos w32 {n = n} h
 
 -- records that were counted and read
 module _ {A : Type 0} (section : ℕ) (one : Reading A) (p : Placed) (c : Cursor) {n : ℕ} {q : Cursor} (r : Ran (counted_by section one p c) n q) where

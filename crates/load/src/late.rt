@@ -18,6 +18,7 @@ use load_survey::Survey;
 use values::module::contains;
 
 // The handlers of section 8, where it stands.
+#[tactic(auto, using(law_format::proofs::Parsed::flag_not, law_format::proofs::Parsed::flag_count, law_format::proofs::Whole::not_whole, crate::proofs::Facts::flag_many, crate::proofs::Facts::flag_said, bits::proofs::Signs::kept))]
 fn check_handler_section(file: File, flags: i32, c: Cursor, sizes: Sizes) -> Result<(), Refusal>
     requires { Whole (under_flag file.bytes.now 32 flags 8 (handler_at file.bytes.now) c) }
     ensures { as_fault result ≡ of_read none (first_of (handler_fault sizes.code sizes.types) 0) (under_flag file.entry.bytes.now 32 flags 8 (handler_at file.entry.bytes.now) c) }
@@ -29,6 +30,7 @@ fn check_handler_section(file: File, flags: i32, c: Cursor, sizes: Sizes) -> Res
     check_handlers(file, count, next, sizes)
 }
 
+#[tactic(auto, using(crate::proofs::Facts::late, crate::proofs::Facts::whole_is, bits::proofs::Signs::kept))]
 pub fn check_late(survey: Survey) -> Result<(), Refusal>
     ensures { as_fault result ≡ of_read none fault_in (parse survey.entry.file.bytes.now Spec.front) }
 {

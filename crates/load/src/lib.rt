@@ -17,6 +17,7 @@ use format::types::File;
 use load_survey::Survey;
 
 // What comes beside the words.
+#[tactic(auto, using(crate::proofs::Facts::small_items, crate::proofs::Facts::small_imports, crate::proofs::Facts::small_handlers, crate::proofs::Facts::as_number, crate::proofs::Facts::module_is))]
 fn module_of(survey: Survey) -> Module
     ensures { besides (parse survey.entry.file.bytes.now Spec.front) result }
 {
@@ -30,6 +31,7 @@ fn module_of(survey: Survey) -> Module
 }
 
 // A file that was surveyed: the late checks, then the room, then the words.
+#[tactic(auto, using(law_format::proofs::Loads::load_fault, crate::proofs::Facts::parsed, crate::proofs::Facts::limit, crate::proofs::Facts::late_is, crate::proofs::Facts::needed_is, crate::proofs::Facts::beside_is, crate::proofs::Facts::few, crate::proofs::Facts::whole))]
 fn load_surveyed(survey: Survey, words: &mut [i32]) -> Result<Loaded, Refusal>
     ensures { load_of survey.entry.file.bytes.now words.old ≡ (result, words.new) }
 {
@@ -49,6 +51,7 @@ fn load_surveyed(survey: Survey, words: &mut [i32]) -> Result<Loaded, Refusal>
 }
 
 // The second clause hands on to a caller what is known of every lent file, and what a list of numbers does not say: that it is bytes.
+#[tactic(auto, using(law_format::proofs::Loads::load_large, law_format::proofs::Loads::load_parse))]
 pub fn load(file: &[u8], words: &mut [i32]) -> Result<Loaded, Refusal>
     ensures answer { load_of file.now words.old ≡ (result, words.new) }
     ensures bytes { (i : ℕ) → byte file.now i < 256 }

@@ -1,6 +1,6 @@
 // The words of instructions. Where an instruction is plain its numbers are stored as they are read: no record is built, and no refusal is in sight.
 ghost use Rattle.std.specs.Prelude.{true, ◌≡◌, ◌+◌, ◌≤◌, length};
-ghost use Rattle.file_code.specs.Plain.{is_plain};
+ghost use Rattle.file_code.specs.Plain.{first_of, second_of, past_operands, is_plain};
 ghost use Rattle.format.specs.Sections.{instruction_at};
 ghost use Rattle.format.specs.Words.{instruction_width, instruction_words};
 ghost use Rattle.rows.specs.Rows.{row_at, row_words};
@@ -14,6 +14,18 @@ use format::put::put_all;
 use format::types::Cursor;
 use rows::Kind;
 
+// What a source or a destination with n operands is stored as, and the place past it.
+fn registers(file: &[u8], n: u32, c: Cursor) -> (i32, i32, Cursor)
+    requires { (n ≤ 2) × (c.at + 8 ≤ length file.now) }
+    ensures { result ≡ (first_of n file.now c, second_of n file.now c, past_operands file.now n c) }
+{
+    (
+        first_of(file, n, c),
+        second_of(file, n, c),
+        past_two(file, n, c),
+    )
+}
+
 // Of the middle operand, the source and the destination: the number of the mode, and the registers that the mode has.
 #[tactic(auto, using(crate::proofs::PlainWords::plain_room, crate::proofs::PlainWords::middles_few, crate::proofs::PlainWords::sources_few, crate::proofs::PlainWords::destinations_few, crate::proofs::PlainWords::source_near, crate::proofs::PlainWords::destination_near, crate::proofs::PlainWords::plain_words, crate::proofs::PlainWords::plain_next))]
 fn put_plain(file: &[u8], c: Cursor, words: &mut [i32], w: usize) -> Filled
@@ -21,31 +33,32 @@ fn put_plain(file: &[u8], c: Cursor, words: &mut [i32], w: usize) -> Filled
     ensures { One instruction_words (instruction_at file.now) c w words.old result words.new }
 {
     let modes = Addressing::from(file[c.at + 1]);
-    let middles = middles_for(modes.middle);
-    let sources = operands_for(modes.source);
-    let destinations = operands_for(modes.destination);
     let middle = c.past(2);
+    let middles = middles_for(modes.middle);
+    let register = first_of(file, middles, middle);
     let source = past_two(file, middles, middle);
-    let destination = past_two(file, sources, source);
+    let (source1, source2, destination) = registers(file, operands_for(modes.source), source);
+    let (destination1, destination2, next) = registers(
+        file,
+        operands_for(modes.destination),
+        destination,
+    );
     let place = put_all(
         words,
         w,
         [
             file[c.at].into(),
             modes.source.into(),
-            first_of(file, sources, source),
-            second_of(file, sources, source),
+            source1,
+            source2,
             modes.middle.into(),
-            first_of(file, middles, middle),
+            register,
             modes.destination.into(),
-            first_of(file, destinations, destination),
-            second_of(file, destinations, destination),
+            destination1,
+            destination2,
         ],
     );
-    Filled {
-        next: past_two(file, destinations, destination),
-        place,
-    }
+    Filled { next, place }
 }
 
 // An instruction, stored; where it is refused, nothing.

@@ -2,6 +2,8 @@
 -- Assumes nothing.
 use Prim.Native.Nat.{ℕ, ◌%◌, ◌^◌, ◌≤◌, ◌<◌}
 use mathlib.Core.Path.{◌≡◌, sym}
+use native.Mathlib.Omega.{arith}
+use mir.Facts.{to_z_pos}
 use borrow.Author.Tests.{lt-ltb, le-ltb}
 use lib.Bits.{bit_and, and_mask}
 use lib.IntN.{ℤ, pos, ◌-ℤ◌}
@@ -19,6 +21,10 @@ found_as e p q = rw (p, q) (sym e)
 -- the six bits beside the form
 pub low_six : (n : ℕ) → bit_and n 63 ≡ n % 64
 low_six n = and_mask n 6
+
+-- a byte of the shortest form, as its bits
+pub low : (n : ℕ) → n < 64 → to_z w32 n ≡ pos n
+low n h = to_z_pos w32 {n = n} (omega arith)
 
 -- seven bits of which the highest is set are the byte less 128
 pub less_128 : (b : ℕ) → 64 ≤ b → b < 128 → signed 64 b ≡ pos b -ℤ pos 128

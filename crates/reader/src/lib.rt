@@ -18,6 +18,7 @@ pub fn read_byte(file: &[u8], c: Cursor) -> Option<(u8, Cursor)>
 }
 
 // The top two bits of the first byte choose the form.
+#[tactic(auto, using(law_format::proofs::OperandCases::operand_past, law_format::proofs::OperandCases::operand_low, law_format::proofs::OperandCases::operand_minus, law_format::proofs::OperandCases::operand_two, law_format::proofs::OperandCases::operand_two_short, law_format::proofs::OperandCases::operand_four, law_format::proofs::OperandCases::operand_four_short, crate::proofs::Facts::low_six, crate::proofs::Facts::less_128, crate::proofs::Facts::low, bits::proofs::Signs::kept))]
 pub fn read_operand(file: &[u8], c: Cursor) -> Option<(i32, Cursor)>
     ensures { as_read result ≡ operand_at file.now c }
 {
@@ -51,6 +52,7 @@ pub fn read_operand(file: &[u8], c: Cursor) -> Option<(i32, Cursor)>
     }
 }
 
+#[tactic(auto, using(law_format::proofs::OperandCases::word_whole, law_format::proofs::OperandCases::word_short, bits::proofs::Signs::kept, bits::proofs::Signs::word_signed))]
 pub fn read_word(file: &[u8], c: Cursor) -> Option<(i32, Cursor)>
     ensures { as_read result ≡ word_at file.now c }
 {
@@ -61,13 +63,8 @@ pub fn read_word(file: &[u8], c: Cursor) -> Option<(i32, Cursor)>
     if file.len() - at < 4 {
         return None;
     }
-    Some((
-        signed(
-            0x8000_0000,
-            be32(file[at], file[at + 1], file[at + 2], file[at + 3]),
-        ),
-        c.past(4),
-    ))
+    let bits = be32(file[at], file[at + 1], file[at + 2], file[at + 3]);
+    Some((bits.cast_signed(), c.past(4)))
 }
 
 // Up to the first zero byte.
@@ -84,6 +81,7 @@ pub fn read_name(file: &[u8], c: Cursor) -> Option<(Part, Cursor)>
     None
 }
 
+#[tactic(auto, using(law_format::proofs::OperandCases::span_whole, law_format::proofs::OperandCases::span_short))]
 pub fn read_span(file: &[u8], len: usize, c: Cursor) -> Option<(Part, Cursor)>
     ensures { part_read result ≡ span_at file.now len c }
 {

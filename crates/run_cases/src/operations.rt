@@ -3,6 +3,7 @@ use crate::memory::{LENT, LENT_BYTE, Lent, WORDS, copy};
 use crate::text::{BYTES, argument, bytes_into, count_of, field, number_of, token, words_into};
 use abi::{dis_entry, dis_export, dis_load, dis_next, dis_raise, dis_write};
 use abi_numbers::{MODULE_WIDTH, STATE_WIDTH};
+use std::fmt;
 
 // What a line comes to.
 #[derive(Clone, Copy)]
@@ -11,18 +12,35 @@ pub enum Verdict {
     NoCase,
     Done,
     Refused,
-    OtherAnswer {
-        number: i64,
-        section: i64,
-        place: i64,
-        detail: i64,
-    },
+    OtherAnswer([i64; 4]),
     OtherWords,
     OtherModule,
     OtherOutput,
     OtherState,
     // Neither a case nor what is lent.
     Strange,
+}
+
+impl fmt::Display for Verdict {
+    fn fmt<W: fmt::Write>(&self, f: &mut fmt::Formatter<W>) -> fmt::Result {
+        match self {
+            Verdict::NoCase => f.write_str("no case"),
+            Verdict::Done => f.write_str("done as listed"),
+            Verdict::Refused => f.write_str("refused as listed"),
+            Verdict::OtherAnswer([number, section, place, detail]) => {
+                write!(f, "the answer is {number} {section} {place} {detail}")
+            }
+            Verdict::OtherWords => f.write_str(
+                "the words differ, or those past them are not as lent",
+            ),
+            Verdict::OtherModule => f.write_str("the module's numbers differ, or are not as lent"),
+            Verdict::OtherOutput => f.write_str(
+                "the output differs, or what is past it is not as lent",
+            ),
+            Verdict::OtherState => f.write_str("the state differs, or is not as lent"),
+            Verdict::Strange => f.write_str("neither a case nor what is lent"),
+        }
+    }
 }
 
 // ---- the answer
@@ -34,15 +52,6 @@ fn same_answer(answer: &[i64; 4], field: &[u8]) -> bool {
         }
     }
     token(field, 4).is_empty()
-}
-
-fn other_answer(answer: &[i64; 4]) -> Verdict {
-    Verdict::OtherAnswer {
-        number: answer[0],
-        section: answer[1],
-        place: answer[2],
-        detail: answer[3],
-    }
 }
 
 fn done(answer: &[i64; 4]) -> Verdict {
@@ -77,10 +86,7 @@ fn numbers_alike(
     let Some(n) = words_into(&mut expected, listed) else {
         return false;
     };
-    if !all_listed(answer, n, written) {
-        return false;
-    }
-    expected.starts_with(run)
+    all_listed(answer, n, written) && expected.starts_with(run)
 }
 
 fn bytes_alike(run: &[u8], listed: &[u8], answer: &[i64; 4]) -> bool {
@@ -88,11 +94,7 @@ fn bytes_alike(run: &[u8], listed: &[u8], answer: &[i64; 4]) -> bool {
     let Some(n) = bytes_into(&mut expected, listed) else {
         return false;
     };
-    if !all_listed(answer, n, answer[1]) {
-        return false;
-    }
-    let m = run.len().min(BYTES);
-    run == &expected[..m]
+    all_listed(answer, n, answer[1]) && expected.starts_with(run)
 }
 
 // ---- `load WORDS | ANSWER | MODULE | TABLES`
@@ -100,7 +102,7 @@ fn bytes_alike(run: &[u8], listed: &[u8], answer: &[i64; 4]) -> bool {
 fn judge_load(line: &[u8], words: &[i32], module: &[i32], answer: &[i64; 4]) -> Verdict {
     let lent = [LENT; WORDS];
     if !same_answer(answer, field(line, 1)) {
-        return other_answer(answer);
+        return Verdict::OtherAnswer(*answer);
     }
     if !numbers_alike(module, &lent, field(line, 2), answer, MODULE_WIDTH as i64) {
         return Verdict::OtherModule;
@@ -111,65 +113,46 @@ fn judge_load(line: &[u8], words: &[i32], module: &[i32], answer: &[i64; 4]) -> 
     done(answer)
 }
 
-#[derive(Clone, Copy)]
-pub struct Ran {
-    pub verdict: Verdict,
-    pub lent: Lent,
-}
-
 // What it loads is lent to the cases after it.
-pub fn run_load(
-    line: &[u8],
-    lent: Lent,
-    file: &[u8],
-    words: &mut [i32],
-    module: &mut [i32],
-) -> Ran {
-    let Some(asked) = count_of(token(field(line, 0), 1)) else {
-        return Ran {
-            verdict: Verdict::Strange,
-            lent,
-        };
-    };
-    let n = asked.min(WORDS);
+pub fn run_load(line: &[u8], lent: &mut Lent) -> Option<Verdict> {
+    let asked = count_of(token(field(line, 0), 1))?;
     let mut run = [LENT; WORDS];
-    let tables = &mut run[..n];
+    let tables = &mut run[..asked.min(WORDS)];
     let mut numbers = [LENT; MODULE_WIDTH];
     let mut answer = [-1i64; 4];
-    dis_load(file, tables, &mut numbers, &mut answer);
-    let verdict = judge_load(line, tables, &numbers, &answer);
-    if answer[0] != 0 {
-        return Ran { verdict, lent };
+    dis_load(lent.file(), tables, &mut numbers, &mut answer);
+    if answer[0] == 0 {
+        lent.set_loaded(tables, numbers);
     }
-    copy(words, tables);
-    copy(module, &numbers);
-    Ran {
-        verdict,
-        lent: Lent {
-            file: lent.file,
-            words: n,
-        },
-    }
+    Some(judge_load(line, tables, &numbers, &answer))
 }
 
 // ---- `write ROOM | CHANGES | ANSWER | BYTES`
 
-pub fn run_write(line: &[u8], module: &[i32], file: &[u8], words: &[i32]) -> Verdict {
-    let Some(room) = count_of(token(field(line, 0), 1)) else {
-        return Verdict::Strange;
-    };
-    let n = room.min(BYTES);
+pub fn run_write(line: &[u8], lent: &Lent) -> Option<Verdict> {
+    let changed = lent.changed(field(line, 1))?;
+    let room = count_of(token(field(line, 0), 1))?;
     let mut run = [LENT_BYTE; BYTES];
-    let out = &mut run[..n];
+    let out = &mut run[..room.min(BYTES)];
     let mut answer = [-1i64; 4];
-    dis_write(module, file, words, out, &mut answer);
-    if !same_answer(&answer, field(line, 2)) {
-        return other_answer(&answer);
+    dis_write(
+        &changed.module,
+        changed.file(),
+        changed.words(),
+        out,
+        &mut answer,
+    );
+    Some(judge_write(line, out, &answer))
+}
+
+fn judge_write(line: &[u8], out: &[u8], answer: &[i64; 4]) -> Verdict {
+    if !same_answer(answer, field(line, 2)) {
+        return Verdict::OtherAnswer(*answer);
     }
-    if !bytes_alike(out, field(line, 3), &answer) {
+    if !bytes_alike(out, field(line, 3), answer) {
         return Verdict::OtherOutput;
     }
-    done(&answer)
+    done(answer)
 }
 
 // ---- `entry | CHANGES | ANSWER | STATE`, `export NUMBER | ..`, `next | ..`, `raise NAME | ..`
@@ -182,88 +165,57 @@ pub enum Event {
     Raise,
 }
 
-fn meet_export(
-    number: &[u8],
-    module: &[i32],
-    file: &[u8],
-    words: &[i32],
-    state: &mut [i32],
-    answer: &mut [i64],
-) -> bool {
-    let Some(Ok(k)) = count_of(number).map(u32::try_from) else {
-        return false;
-    };
-    dis_export(module, file, words, k, state, answer);
-    true
-}
-
-fn meet_raise(
-    listed: &[u8],
-    module: &[i32],
-    file: &[u8],
-    words: &[i32],
-    state: &mut [i32],
-    answer: &mut [i64],
-) -> bool {
-    let mut name = [0u8; BYTES];
-    let Some(len) = bytes_into(&mut name, listed) else {
-        return false;
-    };
-    let n = len.min(BYTES);
-    dis_raise(module, file, words, &name[..n], state, answer);
-    true
-}
-
+// The event is met in the state.
 fn meet(
     event: Event,
     with: &[u8],
-    module: &[i32],
-    file: &[u8],
-    words: &[i32],
+    lent: &Lent,
     state: &mut [i32],
     answer: &mut [i64],
-) -> bool {
+) -> Option<()> {
+    let module = &lent.module;
+    let file = lent.file();
+    let words = lent.words();
     match event {
         Event::Entry => {
             dis_entry(module, file, words, state, answer);
-            true
         }
-        Event::Export => meet_export(token(with, 0), module, file, words, state, answer),
+        Event::Export => {
+            let number = u32::try_from(count_of(token(with, 0))?).ok()?;
+            dis_export(module, file, words, number, state, answer);
+        }
         Event::Next => {
             dis_next(module, file, words, state, answer);
-            true
         }
-        Event::Raise => meet_raise(with, module, file, words, state, answer),
+        Event::Raise => {
+            let mut name = [0u8; BYTES];
+            let len = bytes_into(&mut name, with)?;
+            dis_raise(module, file, words, &name[..len.min(BYTES)], state, answer);
+        }
     }
+    Some(())
 }
 
-pub fn run_event(
-    event: Event,
-    line: &[u8],
-    module: &[i32],
-    file: &[u8],
-    words: &[i32],
-    state: &[i32],
-) -> Verdict {
-    let mut now = [LENT; STATE_WIDTH];
-    copy(&mut now, state);
+pub fn run_event(event: Event, line: &[u8], lent: &Lent) -> Option<Verdict> {
+    let changed = lent.changed(field(line, 1))?;
+    let mut state = lent.state;
     let mut answer = [-1i64; 4];
-    if !meet(
+    meet(
         event,
         argument(field(line, 0)),
-        module,
-        file,
-        words,
-        &mut now,
+        &changed,
+        &mut state,
         &mut answer,
-    ) {
-        return Verdict::Strange;
+    )?;
+    Some(judge_event(line, &lent.state, &state, &answer))
+}
+
+fn judge_event(line: &[u8], lent: &[i32], state: &[i32], answer: &[i64; 4]) -> Verdict {
+    if !same_answer(answer, field(line, 2)) {
+        return Verdict::OtherAnswer(*answer);
     }
-    if !same_answer(&answer, field(line, 2)) {
-        return other_answer(&answer);
-    }
-    if !numbers_alike(&now, state, field(line, 3), &answer, STATE_WIDTH as i64) {
+    if !numbers_alike(state, lent, field(line, 3), answer, STATE_WIDTH as i64) {
         return Verdict::OtherState;
     }
-    done(&answer)
+    done(answer)
 }

@@ -1,10 +1,12 @@
 -- A byte has eight ones at most.
 -- Assumes nothing.
 use Prim.Native.Nat.{ℕ, suc, ◌+◌, ◌*◌, ◌^◌, ◌≤◌, ◌<◌}
-use mathlib.Core.Path.{◌≡◌, ap, ◌∙◌, sym}
+use mathlib.Core.Path.{◌≡◌}
 use mathlib.Core.List.{List, [], ◌∷◌, ◌++◌}
 use native.Mathlib.Omega.{arith}
-use lib.Count.{ones-le}
+use lib.Count.{ones, ones-le}
+use mir.Syntax.{w8}
+use mir.Val.{Fits}
 use lib.ListN.{length, get_or}
 use Rattle.format.specs.Records.{ones_of}
 
@@ -25,3 +27,9 @@ pub ones_none : (xs : List ℕ) → length xs ≡ 0 → ones_of xs ≡ 0
 unfolding ones_of
 ones_none [] e = omega arith
 ones_none (x ∷ xs) e = absurd (omega (arith, e))
+
+pub byte_ones : (b : ℕ) → b < 2 ^ 8 → ones b ≤ 8
+byte_ones b h = ones-le 8 b h
+
+pub ones_most : (xs : List ℕ) → ((i : ℕ) → Fits w8 (get_or xs i 0)) → ones_of xs ≤ length xs * 8
+ones_most xs h = ones_bound xs (λ i. (h i).fits)

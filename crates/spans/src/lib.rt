@@ -10,6 +10,7 @@ use bits::as_natural;
 use format::types::Span;
 
 // Nothing, where it leaves the file.
+#[tactic(auto, using(crate::proofs::Outside::part_past), unfolding(format::specs::Operands::shown))]
 fn part(file: &[u8], from: usize, count: usize) -> &[u8]
     ensures { PartOf file.entry (span_of from count) result }
 {
@@ -36,6 +37,7 @@ pub fn name(file: &[u8], span: Span) -> &[u8]
 }
 
 // The ones of few bytes fit sixteen bits, and the compiler then counts many bytes side by side.
+#[tactic(auto, using(law_format::proofs::Names::ones_turn, law_format::proofs::Names::ones_done, crate::proofs::Ones::byte_ones))]
 fn ones_in_few(few: &[u8]) -> u16
     requires { length few.now ≤ 8000 }
     ensures { result ≡ ones_of few.now }
@@ -48,6 +50,7 @@ fn ones_in_few(few: &[u8]) -> u16
 }
 
 // A map's ones, of a map that is no longer than a span can be.
+#[tactic(auto, using(crate::proofs::Ones::ones_most, crate::proofs::Ones::ones_split, crate::proofs::Ones::ones_none))]
 fn ones_in(map: &[u8]) -> usize
     requires { length map.now < 2 ^ 31 }
     ensures { result ≡ ones_of map.now }
@@ -60,6 +63,7 @@ fn ones_in(map: &[u8]) -> usize
 }
 
 // The pointer count of a map: the number of ones in it.
+#[tactic(auto, using(crate::proofs::Outside::shown_length))]
 pub fn count_pointers(file: &[u8], map: Span) -> usize
     ensures { result ≡ ones_of (shown file.now map) }
 {

@@ -136,6 +136,7 @@ fn good_middle(words: &[i32], w: usize) -> bool
 }
 
 // Every test is made before any is looked at: one branch an instruction.
+#[tactic(auto, using(crate::proofs::Good::there_good, table_pieces::proofs::Facts::byte_kept))]
 fn good_there(words: &[i32], w: usize) -> bool
     requires { w + instruction_width ≤ length words.now }
     ensures { result ≡ is_some (instruction_there words.now w) }

@@ -3,11 +3,13 @@
 use Prim.Native.Nat.{ℕ, ◌+◌, ◌-◌, ◌≤◌}
 use mathlib.Core.Path.{◌≡◌, sym, ap, ◌∙◌}
 use mathlib.Core.List.{List}
+use native.Mathlib.Omega.{arith}
+use lib.Dec.{T}
 use lib.IntN.{ℤ, nat_abs}
 use lib.ListN.{length}
-use lib.Signed.{mag}
-use mir.Syntax.{w32}
-use mir.Val.{to_z, of_z}
+use lib.Signed.{mag, non_neg}
+use mir.Syntax.{w32, w64}
+use mir.Val.{to_z, of_z, Fits}
 use Rattle.format.specs.Words.{import_width, handler_width, case_width}
 use Rattle.format.specs.declared.module.Handler.{Handler}
 use Rattle.format.specs.declared.module.ExceptionCase.{ExceptionCase}
@@ -67,6 +69,13 @@ module _ (file : List ℕ) (words : List ℤ) (w : ℕ) where
         let k = handler_cased head in
         let e : nat_abs (to_z w32 (of_z w32 h.cases)) ≡ mag h.cases = ap nat_abs (cases_are k) ∙ sym (ap mag k.is) in
         rw e
+
+    -- their number, as the code reads it
+    pub cases_fit : T (non_neg (to_z w32 (of_z w32 h.cases))) × Fits w64 (nat_abs (to_z w32 (of_z w32 h.cases)))
+    cases_fit = let k = handler_cased head in rw (cases_are k) (tt, omega (arith, k.most))
+
+    pub cases_least : 1 ≤ nat_abs (to_z w32 (of_z w32 h.cases))
+    cases_least = let k = handler_cased head in rw (cases_are k) k.least
 
     pub cases_stop : {why : Refusal} → end_of (many (row_from file words K.Cases) (before_last h) d) ≡ stops why → end_of (group_from file words G.Handlers w) ≡ stops why
     unfolding handled_from cases_from end_of

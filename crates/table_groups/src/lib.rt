@@ -26,7 +26,7 @@ fn check_import(file: &[u8], words: &[i32], w: usize) -> Result<usize, Refusal>
 }
 
 // A handler's cases, the last of which has no name.
-#[tactic(auto, using(crate::proofs::Members::handler_bad, crate::proofs::Members::handler_room, crate::proofs::Members::last_room, crate::proofs::Members::last_bad, crate::proofs::Members::handler_ends))]
+#[tactic(auto, using(crate::proofs::Members::handler_bad, crate::proofs::Members::handler_room, crate::proofs::Members::cases_fit, crate::proofs::Members::cases_least, crate::proofs::Members::last_room, crate::proofs::Members::last_bad, crate::proofs::Members::handler_ends))]
 fn check_handler(file: &[u8], words: &[i32], w: usize) -> Result<usize, Refusal>
     ensures { as_end result ≡ end_of (group_from file.now words.now Group.Handlers w) }
 {

@@ -11,22 +11,11 @@ use format::module::WORD_LIMIT;
 use format::types::Span;
 use spans::name;
 
-// How many of the lent words are looked at.
-fn words_looked_at(words: &[i32]) -> usize
-    ensures { result ≡ min (length words.now) word_limit }
-{
-    if words.len() < WORD_LIMIT {
-        words.len()
-    } else {
-        WORD_LIMIT
-    }
-}
-
 // Whether a record of `width` words whose first is at w lies inside the words that are looked at.
 pub fn has_room(words: &[i32], width: usize, w: usize) -> bool
     ensures { result ≡ leb (w + width) (min (length words.now) word_limit) }
 {
-    let limit = words_looked_at(words);
+    let limit = words.len().min(WORD_LIMIT);
     if limit < width {
         return false;
     }
@@ -55,8 +44,5 @@ pub fn is_name(file: &[u8], s: Span) -> bool
 pub fn byte_of(v: i32) -> u8
     ensures { result ≡ byte_of v }
 {
-    let Some(n) = as_natural(v) else {
-        return 255;
-    };
-    if n < 255 { n as u8 } else { 255 }
+    u8::try_from(v).unwrap_or(255)
 }

@@ -48,7 +48,7 @@ fn good_row(file: &[u8], words: &[i32], kind: Kind, w: usize) -> bool
 }
 
 // Where n rows of a kind end.
-#[tactic(auto, using(crate::proofs::Reach::row_inside, crate::proofs::Turns::pass_turn, crate::proofs::Turns::pass_stop, crate::proofs::Turns::pass_done))]
+#[tactic(auto, using(crate::proofs::Reach::row_inside, crate::proofs::Turns::pass_turn, crate::proofs::Turns::pass_bad, crate::proofs::Turns::pass_done))]
 pub fn check_rows(
     file: &[u8],
     words: &[i32],

@@ -5,6 +5,7 @@ ghost use Rattle.format.specs.Records.{addressing_byte};
 use format::instruction::{AddressMode, MiddleMode};
 
 // The numbers of three modes in one byte.
+#[tactic(auto, using(bits::proofs::Shifts::side_by_side))]
 pub fn modes_byte(middle: u8, source: u8, destination: u8) -> u8
     requires { (middle < 4) × (source < 8) × (destination < 8) }
     ensures { result ≡ middle * 64 + source * 8 + destination }

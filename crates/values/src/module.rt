@@ -2,14 +2,13 @@
 ghost use Rattle.std.specs.Prelude.{◌≡◌};
 ghost use Rattle.format.specs.Records.{has, flag_value, shape_of};
 
-use bits::bits_of;
 use format::module::{DataKind, Flag, Shape};
 
 // Whether a flag is set in the 32-bit two's complement of the header's number.
 pub fn contains(flags: i32, flag: Flag) -> bool
     ensures { result ≡ has (flag_value flag) flags }
 {
-    let bits = bits_of(0x8000_0000, flags);
+    let bits = flags.cast_unsigned();
     match flag {
         Flag::MustCompile => bits & 1 == 1,
         Flag::DontCompile => (bits >> 1) & 1 == 1,

@@ -6,7 +6,8 @@ ghost use Rattle.write_bytes.specs.Laid.{Ready, Laid};
 ghost use Rattle.law_format.specs.Cased.{Cased};
 ghost use Rattle.write_measure.specs.Heads.{head_line};
 
-use format::module::{Handler, Header, XMAGIC};
+use format::module::{Handler, Header};
+use write_measure::{head_values, header_values};
 use write_pieces::operand::put_operand;
 
 pub fn put_operands(out: &mut [u8], at: usize, values: &[i32]) -> usize
@@ -32,8 +33,7 @@ pub fn put_head(out: &mut [u8], at: usize, h: Handler) -> usize
     requires { Cased h.cases × Ready (head_line h).parts at out.old }
     ensures { Laid (head_line h).parts at out.old result out.new }
 {
-    let values = [h.offset, h.begin, h.end, h.descriptor, h.cases - 1];
-    put_operands(out, at, &values)
+    put_operands(out, at, &head_values(h))
 }
 
 // The plain magic, flags and the seven numbers.
@@ -41,16 +41,5 @@ pub fn put_header(out: &mut [u8], at: usize, h: Header) -> usize
     requires { Ready (header_line h.flags (numbers_of h)).parts at out.old }
     ensures { Laid (header_line h.flags (numbers_of h)).parts at out.old result out.new }
 {
-    let values = [
-        XMAGIC,
-        h.flags,
-        h.stack_extent,
-        h.code_size,
-        h.data_size,
-        h.type_size,
-        h.export_size,
-        h.entry_pc,
-        h.entry_type,
-    ];
-    put_operands(out, at, &values)
+    put_operands(out, at, &header_values(h))
 }

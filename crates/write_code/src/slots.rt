@@ -11,7 +11,7 @@ ghost use Rattle.write_code.specs.Over.{mask_of, shift_of, tag_of, Formed, Over}
 use crate::byte_there;
 use crate::bytes::addressing_there;
 use crate::size::{more, used_middle, used_registers};
-use bits::{bits_of, magnitude};
+use bits::magnitude;
 use write_pieces::{put_bits, put_byte};
 
 // A form at the front of four bytes: what its bits are masked by, how far they stand from the end, and what stands above them.
@@ -51,7 +51,7 @@ fn formed(v: i32) -> u32
     requires { mag v < 2 ^ 29 }
     ensures { Formed v result }
 {
-    let u = bits_of(0x8000_0000, v);
+    let u = v.cast_unsigned();
     let form = form_of(magnitude(v));
     form.tag | ((u & form.mask) << form.shift)
 }

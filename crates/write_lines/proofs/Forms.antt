@@ -10,6 +10,9 @@ use borrow.Author.Tests.{ltb-true, lt-ltb, leb-true}
 use lib.Dec.{leb, ltb}
 use lib.IntN.{ℤ, pos, negsuc}
 use lib.Signed.{mag, le_z}
+use mir.Syntax.{w32}
+use mir.Val.{to_z}
+use mir.Facts.{to_z_pos}
 use lib.ListN.{length, take, drop, length-append, length-take, length-drop}
 use Rattle.format.specs.declared.types.Span.{Span}
 use Rattle.format.specs.Operands.{inside, shown, in30bits, two_bytes, four_bytes, encode_operand, operand_len}
@@ -235,6 +238,10 @@ wide_item kind offset count value =
 
 pub span_small : (file : List ℕ) (s : Span) {n : ℕ} → n ≡ length (shown file s) → length file ≤ size_limit → n ≤ size_limit
 span_small file s e h = omega (arith, e, shown_most file s)
+
+-- a length is passed as its bits
+pub small_number : (n : ℕ) → n ≤ size_limit → to_z w32 n ≡ pos n
+small_number n h = to_z_pos w32 {n = n} (omega arith)
 
 registers_by_most : (mode : AddressMode) (a b : ℤ) → parts_len (by_mode mode [] (operand a ∷ []) (operand a ∷ operand b ∷ [])) ≤ 8
 unfolding parts_len

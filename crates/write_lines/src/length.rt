@@ -35,7 +35,7 @@ fn span_len(file: &[u8], span: Span) -> usize
     name(file, span).len()
 }
 
-#[tactic(auto, using(crate::proofs::Forms::len_most, crate::proofs::Forms::shown_most))]
+#[tactic(auto, using(crate::proofs::Forms::len_most, crate::proofs::Forms::shown_most, crate::proofs::Forms::small_number, crate::proofs::Forms::type_len, bits::proofs::Signs::kept))]
 pub fn type_len(file: File, t: TypeDescriptor) -> usize
     ensures { result ≡ parts_len (type_line (type_shown file.entry.bytes.now t)).parts }
 {
@@ -43,14 +43,14 @@ pub fn type_len(file: File, t: TypeDescriptor) -> usize
     operand_len(t.id) + operand_len(t.size) + operand_len(map as i32) + map
 }
 
-#[tactic(auto, using(crate::proofs::Forms::code_small, crate::proofs::Forms::len_most, crate::proofs::Forms::shown_most))]
+#[tactic(auto, using(crate::proofs::Forms::code_small, crate::proofs::Forms::len_most, crate::proofs::Forms::shown_most, crate::proofs::Forms::item_len, bits::proofs::Signs::kept))]
 pub fn item_len(file: File, d: DataItem) -> usize
     ensures { result ≡ parts_len (item_line (item_shown file.entry.bytes.now d)).parts }
 {
     count_len(d.count) + operand_len(d.offset) + span_len(file.bytes, d.value)
 }
 
-#[tactic(auto, using(crate::proofs::Forms::len_most, crate::proofs::Forms::shown_most, crate::proofs::Forms::export_len))]
+#[tactic(auto, using(crate::proofs::Forms::len_most, crate::proofs::Forms::shown_most, crate::proofs::Forms::export_len, bits::proofs::Signs::kept))]
 pub fn export_len(file: File, e: ExportEntry) -> usize
     ensures { result ≡ parts_len (export_line (export_shown file.entry.bytes.now e)).parts }
 {

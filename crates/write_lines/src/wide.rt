@@ -5,7 +5,7 @@ ghost use Rattle.format.specs.Views.{maybe};
 ghost use Rattle.format.specs.Writing.{registers, middle_register, instruction_line, type_line, item_line, export_line, case_line};
 ghost use Rattle.write_lines.specs.Lines.{wide_one, wide_two, first_wide, WideIn};
 
-use format::instruction::{Instruction, MiddleOperand, Operand};
+use format::instruction::{AddressMode, Instruction, MiddleMode, MiddleOperand, Operand};
 use format::module::{DataItem, ExceptionCase, ExportEntry};
 use format::types::TypeDescriptor;
 use write_pieces::operand::operand_len;
@@ -27,10 +27,14 @@ fn wide_two(a: i32, b: i32) -> Option<i32>
 fn wide_registers(o: Operand) -> Option<i32>
     ensures { maybe result ≡ first_wide (registers o) }
 {
-    match u8::from(o.mode) {
-        0..=2 => wide_one(o.register1),
-        3 => None,
-        4..=255 => wide_two(o.register1, o.register2),
+    match o.mode {
+        AddressMode::OffsetIndirectMp | AddressMode::OffsetIndirectFp | AddressMode::Immediate => {
+            wide_one(o.register1)
+        }
+        AddressMode::None => None,
+        AddressMode::OffsetDoubleIndirectMp | AddressMode::OffsetDoubleIndirectFp => {
+            wide_two(o.register1, o.register2)
+        }
     }
 }
 
@@ -38,9 +42,11 @@ fn wide_registers(o: Operand) -> Option<i32>
 fn wide_middle(o: MiddleOperand) -> Option<i32>
     ensures { maybe result ≡ first_wide (middle_register o) }
 {
-    match u8::from(o.mode) {
-        0 => None,
-        1..=255 => wide_one(o.register1),
+    match o.mode {
+        MiddleMode::None => None,
+        MiddleMode::SmallImmediate | MiddleMode::SmallOffsetFp | MiddleMode::SmallOffsetMp => {
+            wide_one(o.register1)
+        }
     }
 }
 
@@ -54,7 +60,7 @@ pub fn wide_instruction(i: Instruction) -> Option<i32>
 }
 
 // A map's length is never wide.
-#[tactic(auto, using(crate::proofs::Forms::shown_most, crate::proofs::Forms::wide_type))]
+#[tactic(auto, using(crate::proofs::Forms::shown_most, crate::proofs::Forms::wide_type, bits::proofs::Signs::kept))]
 pub fn wide_type(t: TypeDescriptor) -> Option<i32>
     ensures { WideIn (λ file. type_line (type_shown file t)) result }
 {
@@ -62,6 +68,7 @@ pub fn wide_type(t: TypeDescriptor) -> Option<i32>
 }
 
 // Nor is an inline count.
+#[tactic(auto, using(crate::proofs::Forms::wide_item, bits::proofs::Signs::kept))]
 pub fn wide_item(d: DataItem) -> Option<i32>
     ensures { WideIn (λ file. item_line (item_shown file d)) result }
 {

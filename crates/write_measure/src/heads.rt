@@ -3,7 +3,7 @@ ghost use Rattle.std.specs.Prelude.{◌≡◌, [], ◌∷◌, map, ◌+◌, ◌^
 ghost use Rattle.format.specs.Content.{numbers_of};
 ghost use Rattle.format.specs.Writing.{operand, line, header_line};
 ghost use Rattle.law_format.specs.Cased.{Cased};
-ghost use Rattle.write_measure.specs.Heads.{one_line, head_line};
+ghost use Rattle.write_measure.specs.Heads.{one_line, head_numbers, head_line, header_numbers};
 ghost use Rattle.write_measure.specs.Measured.{measured, size_read};
 
 use crate::Measured;
@@ -53,19 +53,25 @@ pub fn measure_one(
 
 // A handler's packed count has the cases before the last.
 #[tactic(auto, using(crate::proofs::Counted::one_less))]
+pub fn head_values(h: Handler) -> [i32; 5]
+    requires { Cased h.cases }
+    ensures { result ≡ head_numbers h }
+{
+    [h.offset, h.begin, h.end, h.descriptor, h.cases - 1]
+}
+
 pub fn measure_head(h: Handler, from: Measured) -> Result<Measured, Refusal>
     requires { (from.size < 2 ^ 62) × (from.next < 2 ^ 61) × Cased h.cases }
     ensures { size_read result ≡ measured from.size from.next (head_line h ∷ []) }
 {
-    let values = [h.offset, h.begin, h.end, h.descriptor, h.cases - 1];
-    measure_operands(&values, 8, HANDLER_WIDTH, from)
+    measure_operands(&head_values(h), 8, HANDLER_WIDTH, from)
 }
 
 // The plain magic, flags and the seven numbers.
-pub fn measure_header(h: Header) -> Result<Measured, Refusal>
-    ensures { size_read result ≡ measured 0 0 (header_line h.flags (numbers_of h) ∷ []) }
+pub fn header_values(h: Header) -> [i32; 9]
+    ensures { result ≡ header_numbers h }
 {
-    let values = [
+    [
         XMAGIC,
         h.flags,
         h.stack_extent,
@@ -75,6 +81,11 @@ pub fn measure_header(h: Header) -> Result<Measured, Refusal>
         h.export_size,
         h.entry_pc,
         h.entry_type,
-    ];
-    measure_operands(&values, 1, 0, Measured { size: 0, next: 0 })
+    ]
+}
+
+pub fn measure_header(h: Header) -> Result<Measured, Refusal>
+    ensures { size_read result ≡ measured 0 0 (header_line h.flags (numbers_of h) ∷ []) }
+{
+    measure_operands(&header_values(h), 1, 0, Measured { size: 0, next: 0 })
 }

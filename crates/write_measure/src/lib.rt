@@ -6,6 +6,8 @@ mod heads;
 mod runs;
 pub mod whole;
 
+pub use crate::heads::{head_values, header_values};
+
 // The bytes so far and the word where the next record begins.
 #[derive(Clone, Copy)]
 pub struct Measured {

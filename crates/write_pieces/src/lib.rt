@@ -7,7 +7,7 @@ ghost use Rattle.std.specs.Prelude.{◌≡◌, [], ◌∷◌, ◌++◌, ◌+◌,
 ghost use Rattle.format.specs.Operands.{four_bytes, encode_word};
 ghost use Rattle.format.specs.Put.{put};
 
-use bits::{bits_of, low};
+use bits::low;
 
 #[tactic(auto, using(law_format::proofs::Put::put_one))]
 pub fn put_byte(out: &mut [u8], at: usize, b: u8) -> usize
@@ -55,6 +55,6 @@ pub fn put_word(out: &mut [u8], at: usize, v: i32) -> usize
     requires { at + length (encode_word v) ≤ length out.old }
     ensures { (result ≡ at + length (encode_word v)) × (out.new ≡ put at (encode_word v) out.old) }
 {
-    put_bits(out, at, bits_of(0x8000_0000, v));
+    put_bits(out, at, v.cast_unsigned());
     at + 4
 }

@@ -4,6 +4,7 @@ ghost use Rattle.std.specs.Int.Signed.{mag};
 ghost use Rattle.format.specs.Operands.{encode_operand, operand_len, two_bytes, four_bytes};
 ghost use Rattle.format.specs.Put.{put};
 
+use crate::put_bits;
 use bits::{bits_of, low, magnitude, tagged};
 
 // How many bytes the shortest form of v has; 0 where no form holds v.
@@ -29,15 +30,12 @@ fn put_two(out: &mut [u8], at: usize, u: u32)
     out[at + 1] = low(u);
 }
 
-#[tactic(auto, using(law_format::proofs::Put::put_four))]
+#[tactic(auto, using(bits::proofs::Shifts::shl_or))]
 fn put_four(out: &mut [u8], at: usize, u: u32)
     requires { (u < 2 ^ 30) × (at + 4 ≤ length out.old) }
     ensures { out.new ≡ put at (four_bytes (3 * 2 ^ 30 + u)) out.old }
 {
-    out[at] = tagged(3, u >> 24);
-    out[at + 1] = low(u >> 16);
-    out[at + 2] = low(u >> 8);
-    out[at + 3] = low(u);
+    put_bits(out, at, (3 << 30) | u);
 }
 
 // The shortest form of v, written at a place; the place past it.

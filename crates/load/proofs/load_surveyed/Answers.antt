@@ -1,16 +1,8 @@
 use native.Mathlib.Omega.{arith}
-use Rattle.std.proofs.lemmas.Grind.{common_steps}
 use Rattle.law_format.specs.Views.{as_fault}
 use Rattle.law_format.proofs.Told.{told}
-use Rattle.law_format.proofs.Loads.{load_fault}
-use Rattle.load.proofs.Facts.{parsed, limit, late_is, needed_is, beside_is, few, whole}
+use Rattle.load.proofs.Facts.{limit, late_is, needed_is, beside_is, few, whole}
 use Rattle.load.proofs.load_surveyed.Goals as goal
-
-pub returns-in_err-check_late : goal.returns-in_err-check_late
-returns-in_err-check_late c =
-    let v = c.args.survey in
-    let e = load_fault _ c.args.words.now v.file.spared (parsed v.surveyed) (late_is v.surveyed (told as_fault c.check_late.ensures c.in_err-check_late.was)) in
-    grind (arith, common_steps, e)
 
 pub overflow_cast-result : goal.overflow_cast-result
 overflow_cast-result c = let v = c.args.survey in omega (arith, needed_is v.surveyed c.words_needed-needed.ensures, limit v.surveyed v.file.spared)

@@ -23,9 +23,6 @@ ended c =
     let a = c.args in
     sym l.invariant.same ∙ ap (further (l.at - a.c.at)) (zero_here _ _ c.loop-at-test.true c.if-file-at-eq0.true) ∙ further_here _
 
-pub past-requires : goal.past-requires
-past-requires c = omega arith
-
 pub returns-then-file-at-eq0 : goal.returns-then-file-at-eq0
 returns-then-file-at-eq0 c = found_as (name_whole _ _ (ended (goal.at.returns-then-file-at-eq0 c).Then-file-at-eq0)) refl c.past.ensures
 

@@ -1,7 +1,7 @@
 use mathlib.Core.Path.{◌≡◌, refl}
 use lib.IntN.{pos}
 use Rattle.bits.proofs.Signs.{natural_is, natural_not, passed}
-use Rattle.law_format.proofs.Names.{before_file, no_length, span_is}
+use Rattle.law_format.proofs.Names.{before_file, no_length}
 use Rattle.spans.proofs.Outside.{part_outside}
 use Rattle.spans.proofs.name.Goals.{In-Some}
 use Rattle.spans.proofs.name.Goals as goal
@@ -21,8 +21,3 @@ pub returns-in_default-as_natural : goal.returns-in_default-as_natural
 returns-in_default-as_natural c =
     let a = c.args in
     part_outside (no_length a.file.now a.span (start_is (goal.at.returns-in_default-as_natural c).In-Some) (natural_not _ (passed a.span.len c.struct_told-2-1.given.1.0.1 c.as_natural-2.ensures c.in_default-as_natural.is))) refl refl
-
-pub returns : goal.returns
-returns c =
-    let span = c.args.span in
-    rw (span_is span (start_is (goal.at.returns c).In-Some) (natural_is _ (passed span.len c.struct_told-2-1.given.1.0.1 c.as_natural-2.ensures c.in-Some-as_natural.is))) c.part.ensures

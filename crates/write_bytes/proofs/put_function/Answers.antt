@@ -5,7 +5,7 @@ use Rattle.format.specs.Operands.{shown, encode_word}
 use Rattle.format.specs.Content.{function_shown}
 use Rattle.format.specs.Writing.{ended, function_line}
 use Rattle.bits.proofs.Signs.{kept}
-use Rattle.write_bytes.proofs.Chain.{Writing, writing, finish, raw_room, raw_step}
+use Rattle.write_bytes.proofs.Chain.{Writing, writing, finish, raw_step}
 use Rattle.write_bytes.proofs.put_function.Goals.{After-put_word-a}
 use Rattle.write_bytes.proofs.put_function.Goals as goal
 
@@ -15,12 +15,6 @@ after_signature : (p : After-put_word-a)
     p.put_word-a.result p.put_word-a.new.out
 after_signature p =
     raw_step (writing p.requires) (ap encode_word (kept p.args.f.signature (omega (arith, p.well_formed.1.1.1.0)))) p.put_word-a.ensures
-
-pub put_word-a-requires : goal.put_word-a-requires
-put_word-a-requires c = raw_room (writing c.requires) (ap encode_word (kept c.args.f.signature (omega (arith, c.well_formed.1.1.1.0))))
-
-pub put_ended-requires : goal.put_ended-requires
-put_ended-requires c = raw_room (after_signature (goal.at.put_ended-requires c).After-put_word-a) (ap (λ name. name ++ 0 ∷ []) c.name.ensures.bytes)
 
 pub returns : goal.returns
 returns c = finish (raw_step (after_signature (goal.at.returns c).After-put_word-a) (ap (λ name. name ++ 0 ∷ []) c.name.ensures.bytes) c.put_ended.ensures)

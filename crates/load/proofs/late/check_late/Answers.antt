@@ -4,13 +4,8 @@ use Rattle.std.proofs.lemmas.Grind.{common_steps}
 use Rattle.bits.proofs.Signs.{kept}
 use Rattle.law_format.specs.Views.{as_fault}
 use Rattle.law_format.proofs.Told.{told}
-use Rattle.load.proofs.Facts.{late, whole_is}
+use Rattle.load.proofs.Facts.{late}
 use Rattle.load.proofs.late.check_late.Goals as goal
-
-pub check_handler_section-requires : goal.check_handler_section-requires
-check_handler_section-requires c =
-    let flags = kept c.args.survey.front.header.header.flags (omega (arith, c.well_formed)) in
-    rw flags (whole_is c.args.survey.surveyed)
 
 pub returns-in_err-check_header : goal.returns-in_err-check_header
 returns-in_err-check_header c =
