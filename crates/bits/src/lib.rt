@@ -67,5 +67,5 @@ pub fn bits_of(half: u32, v: i32) -> u32
 pub fn as_natural(v: i32) -> Option<usize>
     ensures { result ≡ Spec.natural_of v }
 {
-    usize::try_from(v).ok()
+    if v < 0 { None } else { Some(v as usize) }
 }

@@ -8,7 +8,7 @@ ghost use Rattle.std.specs.Prelude.{◌≡◌, length};
 
 use crate::report::{good, refused};
 use crate::shown::Shown;
-use files::{Unread, has_argument, read_file};
+use files::{Unread, is_there, read_file};
 use load::load;
 use std::io;
 use std::rt::{Env, Files};
@@ -128,7 +128,7 @@ fn report_all<R: Env + Files + Print>(rt: &R) -> io::Result<()> {
         lent: MOST_WORDS,
     };
     for i in 1..usize::MAX {
-        if !has_argument(rt, i) {
+        if !is_there(rt.arg(i, &mut [])) {
             break;
         }
         tally = with_argument(rt, tally, i)?;
@@ -140,7 +140,7 @@ fn report_all<R: Env + Files + Print>(rt: &R) -> io::Result<()> {
 }
 
 fn main(rt: HostRuntime) -> io::Result<()> {
-    if !has_argument(&rt, 1) {
+    if !is_there(rt.arg(1, &mut [])) {
         eprintln!(rt;
             "desk PATH..: says of each file whether it is a good module, and if not, why not"
         )?;

@@ -2,6 +2,7 @@
 #![tactic(auto)]
 
 ghost use Rattle.std.specs.Prelude.{◌≡◌, ◌<◌, ◌≤◌, IfOk, length, take};
+ghost use Rattle.files.specs.Arguments.{is_there};
 ghost use Rattle.files.specs.Errors.{errno_of};
 ghost use Rattle.std.specs.Io.{ReadsAtMost};
 ghost use Rattle.std.specs.Io.KnownBytes.{Consumes, IsAtEnd, Keeps};
@@ -9,24 +10,32 @@ ghost use Rattle.std.specs.Io.KnownBytes.{Consumes, IsAtEnd, Keeps};
 use std::env::FillError;
 use std::error::Error;
 use std::io::{ErrorKind, Read};
-use std::rt::{Env, Files};
+use std::rt::Files;
 use std::{fmt, fs, io, str};
+
+// What errno never is: more came after the file's end.
+pub const CHANGED: i32 = 0;
 
 // ---- Linux's numbers
 
-const ENOENT: i32 = 2;
+// There is no such file.
+pub const ENOENT: i32 = 2;
 
 const EIO: i32 = 5;
 
-const EACCES: i32 = 13;
+// It may not be read.
+pub const EACCES: i32 = 13;
 
-const EISDIR: i32 = 21;
+// It is a directory.
+pub const EISDIR: i32 = 21;
 
 const EINVAL: i32 = 22;
 
-const ENAMETOOLONG: i32 = 36;
+// Its name is too long.
+pub const ENAMETOOLONG: i32 = 36;
 
-const EILSEQ: i32 = 84;
+// Its name is no UTF-8: std opens no such file.
+pub const EILSEQ: i32 = 84;
 
 // Why a file was not read.
 #[derive(Clone, Copy, Debug, PartialEq, Eq)]
@@ -54,7 +63,7 @@ impl Unread {
             Unread::Directory => EISDIR,
             Unread::LongName => ENAMETOOLONG,
             Unread::NotUtf8 => EILSEQ,
-            Unread::Changed => 0,
+            Unread::Changed => CHANGED,
             Unread::Other(errno) => errno,
         }
     }
@@ -85,7 +94,7 @@ impl From<io::Error> for Unread {
             Some(EISDIR) => Unread::Directory,
             Some(ENAMETOOLONG) => Unread::LongName,
             Some(EILSEQ) => Unread::NotUtf8,
-            Some(0) => Unread::Changed,
+            Some(CHANGED) => Unread::Changed,
             Some(errno) => Unread::Other(errno),
             None if error.kind() == ErrorKind::InvalidInput => Unread::Other(EINVAL),
             None => Unread::Other(EIO),
@@ -150,7 +159,9 @@ pub fn read_file<R: Files>(rt: &R, path: &[u8], room: &mut [u8]) -> Result<usize
     read_from(&mut file, room)
 }
 
-// Whether there is an argument of this number. 0 is the program's name.
-pub fn has_argument<R: Env>(rt: &R, i: usize) -> bool {
-    !matches!(rt.arg(i, &mut []), Err(FillError::NotPresent))
+// Whether an argument is there, by what std answers where it is asked for: one that is longer than the room is there too.
+pub fn is_there(answer: Result<usize, FillError>) -> bool
+    ensures { result ≡ is_there answer }
+{
+    !matches!(answer, Err(FillError::NotPresent))
 }

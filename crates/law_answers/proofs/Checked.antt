@@ -1,21 +1,49 @@
--- The check of the tables has one answer: a refusal, or the tables as they were lent with the places of their sections.
+-- What hands on a value with a fact has one answer: of a file that refusal 1 spares, the same bytes, else the refusal; of the check of the tables a refusal, or
+-- the tables as they were lent with the places of their sections.
 -- Assumes nothing.
 use Prim.Native.Nat.{ℕ}
-use mathlib.Core.Path.{◌≡◌, sym, ap, ◌∙◌}
+use mathlib.Core.Path.{◌≡◌, ap}
 use mathlib.Core.List.{List}
 use native.Mathlib.Omega.{arith}
 use lib.IntN.{ℤ}
 use Rattle.std.specs.Borrow.{Bor}
-use Rattle.std.specs.Prelude.{Result, Ok, Err, IfOk}
+use Rattle.std.specs.Prelude.{Result, Ok, Err, IfOk, IfErr, ◌<◌, ◌≤◌, length}
 use Rattle.law_format.proofs.Types.{Module, Refusal}
+use Rattle.format.specs.Limits.{size_limit}
+use Rattle.format.specs.declared.refusal.Refusal.TheVariants.{TooLarge}
+use Rattle.format.specs.declared.types.File.{File}
+use Rattle.format.proofs.types.File.new.Reads as file-new
 use Rattle.law_format.proofs.Told.{ok_is, err_is}
 use Rattle.table_check.specs.declared.Places.{Places}
 use Rattle.table_check.specs.declared.tables.Tables.{Tables}
 use Rattle.table_check.specs.Answer.{places_in}
-use Rattle.table_check.specs.Laid.{CheckSays}
 use Rattle.table_check.proofs.Same.{check_same}
 use Rattle.table_check.proofs.check.Reads as check
 use Rattle.law_answers.proofs.Once.{Once}
+
+-- ---- a file that refusal 1 spares
+
+abbrev pub bytes_in : Result File Refusal → Result (Bor (List ℕ)) Refusal
+bytes_in (Ok f) = Ok f.bytes
+bytes_in (Err why) = Err why
+
+module _ (file : Bor (List ℕ)) where
+  abbrev Spared : File → Type 0
+  Spared f = (f.bytes ≡ file) × (length file.now ≤ size_limit)
+
+  abbrev Larger : Refusal → Type 0
+  Larger why = (why ≡ TooLarge) × (size_limit < length file.now)
+
+  same_bytes : (r s : Result File Refusal) → IfOk r Spared → IfErr r Larger → IfOk s Spared → IfErr s Larger → bytes_in r ≡ bytes_in s
+  same_bytes (Ok a) (Ok b) p u q v = rw (p.0, q.0)
+  same_bytes (Ok a) (Err why) p u q v = let small = p.1 in let large = v.1 in absurd (omega arith)
+  same_bytes (Err why) (Ok b) p u q v = let small = q.1 in let large = u.1 in absurd (omega arith)
+  same_bytes (Err why) (Err other) p u q v = rw (u.0, v.0)
+
+pub file_new_once : Once {S = Result (Bor (List ℕ)) Refusal} file-new.Learnt (λ κs r v. bytes_in r)
+file_new_once κs a r s v w p q = same_bytes _ _ _ p.0 p.1 q.0 q.1
+
+-- ---- the check of the tables
 
 abbrev Seen : Type 0
 Seen = Result ((Module × Bor (List ℕ) × Bor (List ℤ)) × Places) Refusal

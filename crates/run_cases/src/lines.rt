@@ -1,14 +1,14 @@
 // A line of a list: it lends something to the lines after it, or is a case.
 use crate::memory::Lent;
 use crate::operations::{Event, Verdict, run_event, run_load, run_write};
-use crate::text::{argument, before, field, token};
+use crate::text::{SPACE, argument, before, field, token};
 
 // Nothing, where it is neither a case nor what is lent.
 fn run_text(text: &[u8], lent: &mut Lent) -> Option<Verdict> {
-    let word = token(text, 0);
-    if word.is_empty() {
+    if text.iter().all(|b| *b == SPACE) {
         return Some(Verdict::NoCase);
     }
+    let word = token(text, 0);
     if !token(field(text, 4), 0).is_empty() {
         return None;
     }

@@ -12,14 +12,13 @@ ghost use Rattle.std.specs.Prelude.{◌≡◌, length};
 use crate::lines::run_line;
 use crate::memory::Lent;
 use crate::operations::Verdict;
-use files::{has_argument, read_file};
+use files::{is_there, read_file};
 use std::io;
 use std::rt::{Env, Files};
 
 // How many cases came out as listed, done or refused, and how many lines did not.
 #[derive(Clone, Copy)]
 struct Tally {
-    line: usize,
     done: usize,
     refused: usize,
     differ: usize,
@@ -28,7 +27,6 @@ struct Tally {
 impl Tally {
     fn with(self, verdict: Verdict) -> Tally {
         let mut next = self;
-        next.line = self.line.saturating_add(1);
         match verdict {
             Verdict::NoCase => {}
             Verdict::Done => next.done = self.done.saturating_add(1),
@@ -43,16 +41,18 @@ impl Tally {
 fn run_lines<P: Print>(rt: &P, text: &[u8]) -> io::Result<Tally> {
     let mut lent = Lent::new();
     let mut tally = Tally {
-        line: 0,
         done: 0,
         refused: 0,
         differ: 0,
     };
-    for line in text.split(|b| *b == b'\n') {
+    for (k, line) in text.split(|b| *b == b'\n').enumerate() {
+        if line.is_empty() {
+            continue;
+        }
         let verdict = run_line(line, &mut lent);
         let next = tally.with(verdict);
         if tally.differ < next.differ {
-            println!(rt; "  line {}: {verdict}", next.line)?;
+            println!(rt; "  line {}: {verdict}", k.saturating_add(1))?;
         }
         tally = next;
     }
@@ -92,7 +92,7 @@ fn with_argument<R: Env + Files + Print>(rt: &R, i: usize) -> io::Result<()> {
 
 fn main(rt: HostRuntime) -> io::Result<()> {
     for i in 1..usize::MAX {
-        if !has_argument(&rt, i) {
+        if !is_there(rt.arg(i, &mut [])) {
             break;
         }
         with_argument(&rt, i)?;

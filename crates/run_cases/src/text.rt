@@ -3,7 +3,7 @@
 // How many bytes a file, a name or an output may have.
 pub const BYTES: usize = 256;
 
-const SPACE: u8 = b' ';
+pub const SPACE: u8 = b' ';
 
 pub const COLON: u8 = b':';
 

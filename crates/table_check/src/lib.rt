@@ -117,7 +117,7 @@ fn check_sections(file: &[u8], words: &[i32], counts: Counts) -> Result<Places, 
 }
 
 // What every operation on tables asks first.
-#[tactic(auto, using(crate::proofs::Stages::outside_bad, crate::proofs::Stages::counts_bad))]
+#[tactic(auto, using(crate::proofs::Stages::too_large, crate::proofs::Stages::outside_bad, crate::proofs::Stages::counts_bad))]
 pub fn check<'a>(m: Module, file: &'a [u8], words: &'a [i32]) -> Result<Tables<'a>, Refusal>
     ensures same { IfOk result (λ t. (t.module ≡ m) × (t.file.bytes ≡ file.entry) × (t.words ≡ words.entry)) }
     ensures says { CheckSays m file.entry.now words.entry.now (places_in result) }

@@ -1,7 +1,7 @@
 -- What the proofs of the pieces share, and what is told of a word that was taken as a byte.
 -- Assumes nothing.
-use Prim.Native.Nat.{ℕ, suc, ◌≤◌, ◌<◌, ◌^◌}
-use mathlib.Core.Path.{◌≡◌, refl, sym, ◌∙◌}
+use Prim.Native.Nat.{ℕ, suc, ◌+◌, ◌≤◌, ◌<◌, ◌^◌}
+use mathlib.Core.Path.{◌≡◌, refl, sym, ap, ◌∙◌}
 use mathlib.Core.Bool.{Bool, true, false, cond, not, ◌||◌}
 use mathlib.Core.List.{List, [], ◌∷◌}
 use mathlib.Core.Option.{Option, none, some, map}
@@ -9,6 +9,7 @@ use native.Mathlib.Omega.{arith}
 use borrow.Author.Tests.{ltb-false}
 use lib.Dec.{ltb, eqb}
 use lib.IntN.{ℤ, pos, negsuc}
+use lib.ListN.{length, get_or, drop}
 use lib.Signed.{mag}
 use mir.Syntax.{w32}
 use mir.Val.{to_z, of_z}
@@ -16,6 +17,7 @@ use Rattle.std.specs.List.{list_any}
 use Rattle.bits.proofs.Signs.{kept}
 use Rattle.format.specs.Operands.{zero_in}
 use Rattle.format.specs.WellFormed.{is_none, numbered}
+use Rattle.law_format.proofs.Names.{zero_here, zero_later, zero_none}
 use Rattle.table_pieces.specs.Bytes.{byte_of}
 
 -- no byte is zero
@@ -28,6 +30,22 @@ pub none_zero : (s : List ℕ) → not (list_any (λ b. eqb b 0) s) ≡ is_none 
 unfolding zero_in
 none_zero [] = refl
 none_zero (b ∷ bs) = sym (zero_by (eqb b 0) (zero_in bs) _ (sym (none_zero bs)))
+
+-- ---- bytes looked at one by one
+
+none_later : (o : Option ℕ) → is_none (map suc o) ≡ is_none o
+none_later (some n) = refl
+none_later none = refl
+
+module _ (bs : List ℕ) (i : ℕ) where
+  pub zero_met : i < length bs → get_or bs i 0 ≡ 0 → is_none (zero_in (drop i bs)) ≡ false
+  zero_met h e = ap is_none (zero_here bs i h e)
+
+  pub zero_not_yet : i < length bs → (get_or bs i 0 ≡ 0 → ⊥) → is_none (zero_in (drop i bs)) ≡ is_none (zero_in (drop (i + 1) bs))
+  zero_not_yet h e = ap is_none (zero_later bs i h e) ∙ none_later (zero_in (drop (i + 1) bs))
+
+  pub zero_never : length bs ≤ i → is_none (zero_in (drop i bs)) ≡ true
+  zero_never h = ap is_none (zero_none bs i h)
 
 -- ---- a word as a byte: 255 and more say nothing, and neither does a negative number
 

@@ -3,6 +3,7 @@
 
 ghost use Rattle.std.specs.Prelude.{◌≡◌, ◌+◌, min, leb, length};
 ghost use Rattle.format.specs.Records.{word_limit};
+ghost use Rattle.format.specs.Operands.{zero_in};
 ghost use Rattle.format.specs.WellFormed as Spec;
 ghost use Rattle.table_pieces.specs.Bytes.{byte_of};
 
@@ -10,6 +11,9 @@ use bits::as_natural;
 use format::module::WORD_LIMIT;
 use format::types::Span;
 use spans::name;
+
+// Fewer bytes are looked at one by one.
+const FEW: usize = 4;
 
 // Whether a record of `width` words whose first is at w lies inside the words that are looked at.
 pub fn has_room(words: &[i32], width: usize, w: usize) -> bool
@@ -34,10 +38,41 @@ pub fn is_span(file: &[u8], s: Span) -> bool
     from + count <= file.len()
 }
 
+// The search of the library, in a function of its own: for a few bytes its call costs more than they do.
+#[inline(never)]
+fn many_nonzero(bytes: &[u8]) -> bool
+    ensures { result ≡ Spec.is_none (zero_in bytes.now) }
+{
+    !bytes.contains(&0)
+}
+
+#[tactic(auto, using(crate::proofs::Facts::zero_met, crate::proofs::Facts::zero_not_yet, crate::proofs::Facts::zero_never))]
+fn few_nonzero(bytes: &[u8]) -> bool
+    ensures { result ≡ Spec.is_none (zero_in bytes.now) }
+{
+    for byte in bytes {
+        if *byte == 0 {
+            return false;
+        }
+    }
+    true
+}
+
+// Whether no byte is zero.
+fn all_nonzero(bytes: &[u8]) -> bool
+    ensures { result ≡ Spec.is_none (zero_in bytes.now) }
+{
+    if bytes.len() < FEW {
+        few_nonzero(bytes)
+    } else {
+        many_nonzero(bytes)
+    }
+}
+
 pub fn is_name(file: &[u8], s: Span) -> bool
     ensures { result ≡ Spec.is_name file.now s }
 {
-    is_span(file, s) && !name(file, s).contains(&0)
+    is_span(file, s) && all_nonzero(name(file, s))
 }
 
 // A word as a byte; where it is none, 255, which is no opcode, mode or kind.

@@ -1,23 +1,16 @@
--- Bytes copied to a part of the output, a name with its zero byte, and the longest form by a name that code can say.
+-- A name with its zero byte, and the longest form of an operand by a name that code can say.
 -- Assumes nothing.
-use Prim.Native.Nat.{ℕ, ◌+◌, ◌-◌, ◌*◌, ◌^◌, ◌≤◌}
-use mathlib.Core.Path.{◌≡◌, refl}
-use mathlib.Core.List.{List, [], ◌∷◌, ◌++◌, append_assoc}
-use native.Mathlib.Nat.{add-sub_cancel_left}
+use Prim.Native.Nat.{ℕ, ◌+◌, ◌*◌, ◌^◌, ◌≤◌}
+use mathlib.Core.Path.{◌≡◌}
+use mathlib.Core.List.{List, [], ◌∷◌, ◌++◌}
 use lib.IntN.{ℤ}
 use lib.Signed.{mag}
 use lib.ListN.{length, length-append}
-use lib.Seq.{drop-drop}
-use borrow.Rule.Slice.PartMut.{put_mid}
 use Rattle.bits.specs.Bits.{bits_of}
 use Rattle.format.specs.Operands.{encode_operand, four_bytes}
 use Rattle.format.specs.Put.{put}
 use Rattle.law_format.proofs.OperandCases.{encode-four}
 use Rattle.law_format.proofs.Put.{put_next}
-
-pub put_part : (at : ℕ) (bs out now : List ℕ) → now ≡ bs → put_mid at (at + length bs - at) out now ≡ put at bs out
-unfolding put
-put_part at bs out now e = rw (e, add-sub_cancel_left, drop-drop, append_assoc) refl
 
 pub length_ended : (name : List ℕ) → length (name ++ 0 ∷ []) ≡ length name + 1
 length_ended name = length-append name (0 ∷ [])

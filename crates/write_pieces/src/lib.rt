@@ -18,14 +18,16 @@ pub fn put_byte(out: &mut [u8], at: usize, b: u8) -> usize
     at + 1
 }
 
-#[tactic(auto, using(crate::proofs::Parts::put_part))]
+// One by one: a copy of the whole would be a call of C's memmove, which an archive for C then needs from outside.
+#[tactic(auto, using(crate::proofs::Copy::copied_none, crate::proofs::Copy::copied_more, crate::proofs::Copy::copied_all))]
 pub fn put_bytes(out: &mut [u8], at: usize, bytes: &[u8]) -> usize
     requires { at + length bytes.now ≤ length out.old }
     ensures { (result ≡ at + length bytes.now) × (out.new ≡ put at bytes.now out.old) }
 {
-    let end = at + bytes.len();
-    out[at..end].copy_from_slice(bytes);
-    end
+    for (i, byte) in bytes.iter().enumerate() {
+        out[at + i] = *byte;
+    }
+    at + bytes.len()
 }
 
 // A name and its zero byte.
