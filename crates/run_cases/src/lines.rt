@@ -1,18 +1,14 @@
 // A line of a list: it lends something to the lines after it, or is a case.
 use crate::memory::Lent;
 use crate::operations::{Event, Verdict, run_event, run_load, run_write};
-use crate::text::{SPACE, argument, before, field, token};
+use crate::text::{argument, field, token};
 
 // Nothing, where it is neither a case nor what is lent.
 fn run_text(text: &[u8], lent: &mut Lent) -> Option<Verdict> {
-    if text.iter().all(|b| *b == SPACE) {
-        return Some(Verdict::NoCase);
-    }
-    let word = token(text, 0);
     if !token(field(text, 4), 0).is_empty() {
         return None;
     }
-    match word {
+    match token(text, 0) {
         b"file" => lent.set_file(argument(text))?,
         b"words" => lent.set_words(argument(text))?,
         b"module" => lent.set_module(argument(text))?,
@@ -28,6 +24,6 @@ fn run_text(text: &[u8], lent: &mut Lent) -> Option<Verdict> {
     Some(Verdict::NoCase)
 }
 
-pub fn run_line(line: &[u8], lent: &mut Lent) -> Verdict {
-    run_text(before(line, b'#'), lent).unwrap_or(Verdict::Strange)
+pub fn run_line(text: &[u8], lent: &mut Lent) -> Verdict {
+    run_text(text, lent).unwrap_or(Verdict::Strange)
 }

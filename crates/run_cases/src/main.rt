@@ -12,6 +12,7 @@ ghost use Rattle.std.specs.Prelude.{◌≡◌, length};
 use crate::lines::run_line;
 use crate::memory::Lent;
 use crate::operations::Verdict;
+use crate::text::{before, past_spaces};
 use files::{is_there, read_file};
 use std::io;
 use std::rt::{Env, Files};
@@ -37,7 +38,8 @@ impl Tally {
     }
 }
 
-// Each line is handed what the lines before it lent. One that came out otherwise than listed is printed.
+// Each line is handed what the lines before it lent; one with nothing before a # is passed over. One that came out otherwise
+// than listed is printed.
 fn run_lines<P: Print>(rt: &P, text: &[u8]) -> io::Result<Tally> {
     let mut lent = Lent::new();
     let mut tally = Tally {
@@ -46,10 +48,11 @@ fn run_lines<P: Print>(rt: &P, text: &[u8]) -> io::Result<Tally> {
         differ: 0,
     };
     for (k, line) in text.split(|b| *b == b'\n').enumerate() {
-        if line.is_empty() {
+        let text = before(line, b'#');
+        if past_spaces(text).is_empty() {
             continue;
         }
-        let verdict = run_line(line, &mut lent);
+        let verdict = run_line(text, &mut lent);
         let next = tally.with(verdict);
         if tally.differ < next.differ {
             println!(rt; "  line {}: {verdict}", k.saturating_add(1))?;

@@ -3,7 +3,7 @@
 // How many bytes a file, a name or an output may have.
 pub const BYTES: usize = 256;
 
-pub const SPACE: u8 = b' ';
+const SPACE: u8 = b' ';
 
 pub const COLON: u8 = b':';
 
@@ -30,12 +30,21 @@ pub fn behind(text: &[u8], mark: u8) -> &[u8] {
     }
 }
 
+// What follows the spaces in front.
+pub fn past_spaces(text: &[u8]) -> &[u8] {
+    match text.iter().position(|b| *b != SPACE) {
+        Some(start) => &text[start..],
+        None => &[],
+    }
+}
+
 // The token with that number: an empty one, where there are fewer.
 pub fn token(text: &[u8], number: usize) -> &[u8] {
-    text.split(|b| *b == SPACE)
-        .filter(|t| !t.is_empty())
-        .nth(number)
-        .unwrap_or(&[])
+    let mut left = past_spaces(text);
+    for _ in 0..number {
+        left = past_spaces(behind(left, SPACE));
+    }
+    before(left, SPACE)
 }
 
 // The field with that number: an empty one, where there are fewer.
