@@ -12,6 +12,12 @@ if ! (cd crates/abi_c && rt lib --cpu x86-64) >"$built/archive.log" 2>&1; then
     exit 1
 fi
 cp crates/abi_c/out/libabi_c.a "$built/libabi.a"
+# It links where there is no C library: it needs no name from outside.
+nm -u "$built/libabi.a" >"$built/outside.txt"
+if grep ' U ' "$built/outside.txt"; then
+    echo "run.sh: the archive needs these names from outside" >&2
+    exit 1
+fi
 "${CC:-cc}" -std=c11 -O2 -Wall -Wextra -Iinclude examples/c/walk.c "$built/libabi.a" -o "$built/walk"
 examples/c/make_module.sh >"$built/small.dis"
 
