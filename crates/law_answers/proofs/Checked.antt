@@ -34,14 +34,14 @@ module _ (file : Bor (List ℕ)) where
   abbrev Larger : Refusal → Type 0
   Larger why = (why ≡ TooLarge) × (size_limit < length file.now)
 
-  same_bytes : (r s : Result File Refusal) → IfOk r Spared → IfErr r Larger → IfOk s Spared → IfErr s Larger → bytes_in r ≡ bytes_in s
-  same_bytes (Ok a) (Ok b) p u q v = rw (p.0, q.0)
-  same_bytes (Ok a) (Err why) p u q v = let small = p.1 in let large = v.1 in absurd (omega arith)
-  same_bytes (Err why) (Ok b) p u q v = let small = q.1 in let large = u.1 in absurd (omega arith)
-  same_bytes (Err why) (Err other) p u q v = rw (u.0, v.0)
+  same_file : (r s : Result File Refusal) → IfOk r Spared → IfErr r Larger → IfOk s Spared → IfErr s Larger → bytes_in r ≡ bytes_in s
+  same_file (Ok a) (Ok b) p u q v = rw (p.0, q.0)
+  same_file (Ok a) (Err why) p u q v = let small = p.1 in let large = v.1 in absurd (omega arith)
+  same_file (Err why) (Ok b) p u q v = let small = q.1 in let large = u.1 in absurd (omega arith)
+  same_file (Err why) (Err other) p u q v = rw (u.0, v.0)
 
 pub file_new_once : Once {S = Result (Bor (List ℕ)) Refusal} file-new.Learnt (λ κs r v. bytes_in r)
-file_new_once κs a r s v w p q = same_bytes _ _ _ p.0 p.1 q.0 q.1
+file_new_once κs a r s v w p q = same_file _ _ _ p.0 p.1 q.0 q.1
 
 -- ---- the check of the tables
 

@@ -24,6 +24,7 @@ fn run_text(text: &[u8], lent: &mut Lent) -> Option<Verdict> {
     Some(Verdict::NoCase)
 }
 
+// Of what stands on the line before a #, where that is something.
 pub fn run_line(text: &[u8], lent: &mut Lent) -> Verdict {
     run_text(text, lent).unwrap_or(Verdict::Strange)
 }

@@ -48,11 +48,11 @@ fn run_lines<P: Print>(rt: &P, text: &[u8]) -> io::Result<Tally> {
         differ: 0,
     };
     for (k, line) in text.split(|b| *b == b'\n').enumerate() {
-        let text = before(line, b'#');
-        if past_spaces(text).is_empty() {
+        let content = before(line, b'#');
+        if past_spaces(content).is_empty() {
             continue;
         }
-        let verdict = run_line(text, &mut lent);
+        let verdict = run_line(content, &mut lent);
         let next = tally.with(verdict);
         if tally.differ < next.differ {
             println!(rt; "  line {}: {verdict}", k.saturating_add(1))?;
